@@ -1,0 +1,13 @@
+pub mod Cut
+pub mod Unique
+pub mod Grouping
+pub mod OneReading
+pub mod Beginning
+pub mod Trims
+pub mod Unfolding
+pub mod Editing
+pub mod Spelling
+pub mod Delimiters
+pub mod Places
+pub mod Least
+pub mod ReadingOf
