@@ -1,0 +1,27 @@
+// The entries of a history.
+use crate::{Release, Submission};
+use mail_names::ItemName;
+
+/// What happened. Moments are seconds since 1970-01-01T00:00:00Z.
+#[derive(Drop)]
+pub enum Entry {
+    /// A submission was accepted, and got the next number.
+    Accepted {
+        moment: u64,
+        submission: Submission,
+    },
+    /// A release of the submission of this number was made.
+    Categorised {
+        number: u64,
+        release: u32,
+        plan: Release,
+    },
+    /// A turn began.
+    Moment {
+        moment: u64,
+    },
+    /// An item is in its folder.
+    Delivered {
+        name: ItemName,
+    },
+}

@@ -1,0 +1,12 @@
+//! What is accepted, what is sent, and the entries of the hub's log with their bytes.
+#![tactic(auto)]
+
+mod entry;
+mod intake;
+mod release;
+mod submission;
+
+pub use entry::Entry;
+pub use intake::{Accepted, Intake, IntakeFault, IntakeStep};
+pub use release::{Item, Release};
+pub use submission::{Origin, Submission, SubmissionFault};
