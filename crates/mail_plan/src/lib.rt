@@ -5,8 +5,12 @@ mod entry;
 mod intake;
 mod release;
 mod submission;
+mod text;
 
 pub use entry::Entry;
 pub use intake::{Accepted, Intake, IntakeFault, IntakeStep};
 pub use release::{Item, Release};
 pub use submission::{Origin, Submission, SubmissionFault};
+pub use text::{
+    put_bytes, put_item_name, put_key, put_key_option, put_keys, put_origin, put_release,
+};

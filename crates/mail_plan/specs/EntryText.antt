@@ -1,0 +1,67 @@
+-- The bytes of an entry in the log. Numbers are little-endian.
+use Rattle.std.specs.Prelude.{ℕ, List, [], ◌∷◌, ◌++◌, length, flat_map, Option, Some, None}
+use Rattle.std.specs.Int.{to_le_bytes, w32, w64}
+use Rattle.mail_names.specs.declared.name.ItemName.{ItemName}
+use Rattle.mail_names.specs.declared.name.Mark.{Mark}
+use Rattle.mail_names.specs.declared.name.Mark.TheVariants as marks
+use Rattle.mail_plan.specs.Submission.{Submitted}
+use Rattle.mail_plan.specs.declared.submission.Origin.{Origin}
+use Rattle.mail_plan.specs.declared.submission.Origin.TheVariants as origins
+use Rattle.mail_plan.specs.declared.release.Item.{Item}
+use Rattle.mail_plan.specs.declared.release.Release.{Release}
+use Rattle.mail_plan.specs.declared.entry.Entry.{Entry}
+use Rattle.mail_plan.specs.declared.entry.Entry.TheVariants as entries
+
+unfoldable pub le64 : ℕ → List ℕ
+le64 n = to_le_bytes w64 n
+
+unfoldable pub le32 : ℕ → List ℕ
+le32 n = to_le_bytes w32 n
+
+-- bytes: their count as u64, and they
+abbrev pub form_bytes : List ℕ → List ℕ
+form_bytes bytes = le64 (length bytes) ++ bytes
+
+-- an option: 0, or 1 and the value
+abbrev pub form_key_option : Option (List ℕ) → List ℕ
+form_key_option None = 0 ∷ []
+form_key_option (Some key) = 1 ∷ form_bytes key
+
+-- a list: its count as u32, and its elements
+abbrev pub form_all : {T : Type 0} → (T → List ℕ) → List T → List ℕ
+form_all form values = le32 (length values) ++ flat_map form values
+
+abbrev pub form_mark : Mark → List ℕ
+form_mark marks.Plain = 0 ∷ []
+form_mark marks.Gate = 1 ∷ []
+form_mark marks.Delay = 2 ∷ []
+form_mark marks.Failure = 3 ∷ []
+
+-- an item's name: u64 submission, u32 release, u32 place, mark
+abbrev pub form_name : ItemName → List ℕ
+form_name name = le64 name.submission ++ (le32 name.release ++ (le32 name.place ++ form_mark name.mark))
+
+-- an item: its name, its folder, kind 0 (a version), why 0 (sent directly), u32 text
+abbrev pub form_item : Item → List ℕ
+form_item item = form_name item.name ++ (form_bytes item.folder ++ (0 ∷ 0 ∷ le32 item.text))
+
+-- a release: its texts, its items, no holds and no ends
+abbrev pub form_release : Release → List ℕ
+form_release release = form_all form_bytes release.texts ++ (form_all form_item release.items ++ (le32 0 ++ le32 0))
+
+-- an origin: 0 for SMTP, or 1 and the mark
+abbrev pub form_origin : Origin → List ℕ
+form_origin origins.Smtp = 0 ∷ []
+form_origin (origins.Pickup mark) = 1 ∷ form_bytes mark
+
+-- a submission: its origin, its reverse path, its recipients, its bytes
+abbrev pub form_submission : Submitted → List ℕ
+form_submission s =
+    form_origin s.origin ++ (form_key_option s.reverse ++ (form_all form_bytes s.recipients ++ form_bytes s.bytes))
+
+-- an entry: its kind, and its fields in order
+abbrev pub entry_text : Entry → List ℕ
+entry_text (entries.Accepted moment submission) = 2 ∷ (le64 moment ++ form_submission submission)
+entry_text (entries.Categorised number release plan) = 3 ∷ (le64 number ++ (le32 release ++ form_release plan))
+entry_text (entries.Moment moment) = 5 ∷ le64 moment
+entry_text (entries.Delivered name) = 6 ∷ form_name name

@@ -1,0 +1,211 @@
+// The bytes of entries in the log, written.
+ghost use Rattle.std.specs.Prelude.{◌≡◌, ◌++◌, OnOk, IfOk, option_copied};
+ghost use Rattle.mail_plan.specs.EntryText.{le32, le64, form_bytes, form_key_option, form_all, form_mark, form_name, form_item, form_release, form_origin, form_submission, entry_text};
+
+use crate::{Entry, Item, Origin, Release, Submission};
+use mail_names::{Bytes, ItemName, Key, Mark, NoMemory};
+use std::alloc::Global;
+
+#[tactic(auto, unfolding(crate::specs::EntryText::le64))]
+fn put_u64(into: &mut Bytes, value: u64) -> Result<(), NoMemory>
+    ensures { OnOk result (into.new ≡ into.old ++ le64 value) }
+{
+    into.add(&value.to_le_bytes())
+}
+
+#[tactic(auto, unfolding(crate::specs::EntryText::le32))]
+fn put_u32(into: &mut Bytes, value: u32) -> Result<(), NoMemory>
+    ensures { OnOk result (into.new ≡ into.old ++ le32 value) }
+{
+    into.add(&value.to_le_bytes())
+}
+
+// A list of 2^32 elements or more has no form.
+fn put_count(into: &mut Bytes, count: usize) -> Result<(), NoMemory>
+    ensures { OnOk result (into.new ≡ into.old ++ le32 count) }
+{
+    let count = u32::try_from(count).map_err(|_| NoMemory)?;
+    put_u32(into, count)
+}
+
+fn put_slice(into: &mut Bytes, value: &[u8]) -> Result<(), NoMemory>
+    ensures { OnOk result (into.new ≡ into.old ++ form_bytes value.now) }
+{
+    put_u64(into, value.len() as u64)?;
+    into.add(value)
+}
+
+/// Appends bytes: their count as a u64, and they.
+pub fn put_bytes(into: &mut Bytes, value: &Bytes) -> Result<(), NoMemory>
+    ensures { OnOk result (into.new ≡ into.old ++ form_bytes value.now) }
+{
+    put_slice(into, value.as_slice())
+}
+
+/// Appends a key, as its bytes.
+pub fn put_key(into: &mut Bytes, value: &Key) -> Result<(), NoMemory>
+    ensures { OnOk result (into.new ≡ into.old ++ form_bytes value.now) }
+{
+    put_slice(into, value.bytes())
+}
+
+/// Appends 0, or 1 and the key.
+pub fn put_key_option(into: &mut Bytes, value: &Option<Key>) -> Result<(), NoMemory>
+    ensures { OnOk result (into.new ≡ into.old ++ form_key_option value.now) }
+{
+    match value {
+        None => into.add(&[0]),
+        Some(key) => {
+            into.add(&[1])?;
+            put_key(into, key)
+        }
+    }
+}
+
+/// Appends the count of the keys as a u32, and the keys.
+pub fn put_keys(into: &mut Bytes, values: &[Key]) -> Result<(), NoMemory>
+    ensures { OnOk result (into.new ≡ into.old ++ form_all form_bytes values.now) }
+{
+    put_count(into, values.len())?;
+    for value in values {
+        put_key(into, value)?;
+    }
+    Ok(())
+}
+
+/// Appends 0 for SMTP, or 1 and the mark of the pickup file.
+pub fn put_origin(into: &mut Bytes, value: &Origin) -> Result<(), NoMemory>
+    ensures { OnOk result (into.new ≡ into.old ++ form_origin value.now) }
+{
+    match value {
+        Origin::Smtp => into.add(&[0]),
+        Origin::Pickup { mark } => {
+            into.add(&[1])?;
+            put_bytes(into, mark)
+        }
+    }
+}
+
+fn put_mark(into: &mut Bytes, value: Mark) -> Result<(), NoMemory>
+    ensures { OnOk result (into.new ≡ into.old ++ form_mark value) }
+{
+    match value {
+        Mark::Plain => into.add(&[0]),
+        Mark::Gate => into.add(&[1]),
+        Mark::Delay => into.add(&[2]),
+        Mark::Failure => into.add(&[3]),
+    }
+}
+
+/// Appends the three numbers of the name and its mark.
+pub fn put_item_name(into: &mut Bytes, value: &ItemName) -> Result<(), NoMemory>
+    ensures { OnOk result (into.new ≡ into.old ++ form_name value.now) }
+{
+    put_u64(into, value.submission)?;
+    put_u32(into, value.release)?;
+    put_u32(into, value.place)?;
+    put_mark(into, value.mark)
+}
+
+fn put_item(into: &mut Bytes, value: &Item) -> Result<(), NoMemory>
+    ensures { OnOk result (into.new ≡ into.old ++ form_item value.now) }
+{
+    put_item_name(into, &value.name)?;
+    put_key(into, &value.folder)?;
+    into.add(&[0, 0])?;
+    put_u32(into, value.text)
+}
+
+fn put_texts(into: &mut Bytes, values: &[Bytes]) -> Result<(), NoMemory>
+    ensures { OnOk result (into.new ≡ into.old ++ form_all form_bytes values.now) }
+{
+    put_count(into, values.len())?;
+    for value in values {
+        put_bytes(into, value)?;
+    }
+    Ok(())
+}
+
+fn put_items(into: &mut Bytes, values: &[Item]) -> Result<(), NoMemory>
+    ensures { OnOk result (into.new ≡ into.old ++ form_all form_item values.now) }
+{
+    put_count(into, values.len())?;
+    for value in values {
+        put_item(into, value)?;
+    }
+    Ok(())
+}
+
+/// Appends a release: its texts and its items, with no holds and no ends.
+pub fn put_release(into: &mut Bytes, value: &Release) -> Result<(), NoMemory>
+    ensures { OnOk result (into.new ≡ into.old ++ form_release value.now) }
+{
+    put_texts(into, value.texts.as_slice())?;
+    put_items(into, value.items.as_slice())?;
+    put_u32(into, 0)?;
+    put_u32(into, 0)
+}
+
+fn put_reverse(into: &mut Bytes, value: Option<&Key>) -> Result<(), NoMemory>
+    ensures { OnOk result (into.new ≡ into.old ++ form_key_option (option_copied value.entry)) }
+{
+    match value {
+        None => into.add(&[0]),
+        Some(key) => {
+            into.add(&[1])?;
+            put_key(into, key)
+        }
+    }
+}
+
+fn put_submission(into: &mut Bytes, value: &Submission) -> Result<(), NoMemory>
+    ensures { OnOk result (into.new ≡ into.old ++ form_submission value.now) }
+{
+    put_origin(into, value.origin())?;
+    put_reverse(into, value.reverse())?;
+    put_keys(into, value.recipients())?;
+    put_slice(into, value.bytes())
+}
+
+fn put_entry(into: &mut Bytes, entry: &Entry) -> Result<(), NoMemory>
+    ensures { OnOk result (into.new ≡ into.old ++ entry_text entry.now) }
+{
+    match entry {
+        Entry::Accepted { moment, submission } => {
+            into.add(&[2])?;
+            put_u64(into, *moment)?;
+            put_submission(into, submission)
+        }
+        Entry::Categorised {
+            number,
+            release,
+            plan,
+        } => {
+            into.add(&[3])?;
+            put_u64(into, *number)?;
+            put_u32(into, *release)?;
+            put_release(into, plan)
+        }
+        Entry::Moment { moment } => {
+            into.add(&[5])?;
+            put_u64(into, *moment)
+        }
+        Entry::Delivered { name } => {
+            into.add(&[6])?;
+            put_item_name(into, name)
+        }
+    }
+}
+
+impl Entry {
+    /// The bytes of the entry in the log: its kind, and its fields in order.
+    ///
+    /// An entry with a list of 2^32 elements or more has none, and is answered with want of memory.
+    pub fn text(&self, alloc: Global) -> Result<Bytes, NoMemory>
+        ensures { IfOk result (λ text. text ≡ entry_text self.now) }
+    {
+        let mut text = Bytes::new(alloc);
+        put_entry(&mut text, self)?;
+        Ok(text)
+    }
+}
