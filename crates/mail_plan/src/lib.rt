@@ -1,6 +1,7 @@
 //! What is accepted, what is sent, and the entries of the hub's log with their bytes.
 #![tactic(auto)]
 
+mod base;
 mod entry;
 mod intake;
 mod release;

@@ -1,0 +1,44 @@
+// The message that is sent for a submission.
+ghost use Rattle.std.specs.Prelude.{◌≡◌, IfOk};
+ghost use Rattle.mail_message.specs.ReadOf.{read_of};
+ghost use Rattle.mail_plan.specs.Base.{id_text, text_with_id, base_text};
+
+use crate::Submission;
+use mail_message::Message;
+use mail_names::{Bytes, NoMemory};
+use std::alloc::Global;
+
+fn id_text(alloc: Global, number: u64) -> Result<Bytes, NoMemory>
+    ensures { IfOk result (λ text. text ≡ id_text number) }
+{
+    let text = format!(in alloc; "<{number}@hub.invalid>")?;
+    Bytes::of(alloc, text.as_bytes())
+}
+
+fn text_with_id(alloc: Global, number: u64, bytes: &[u8]) -> Result<Bytes, NoMemory>
+    ensures { IfOk result (λ text. text ≡ text_with_id number (read_of bytes.now)) }
+{
+    let id = id_text(alloc, number)?;
+    match Message::read(alloc, bytes) {
+        Ok(message) => {
+            let mut message = message;
+            message.set_field(alloc, b"Message-Id", id.as_slice())?;
+            message.bytes(alloc)
+        }
+        // The bytes of a submission are readable, so this is want of memory.
+        Err(_) => Err(NoMemory),
+    }
+}
+
+impl Submission {
+    /// The message that rules see and that is sent: the bytes as they are, or, where they have no Message-Id with
+    /// a value, with `Message-Id: <N@hub.invalid>`, N being the submission's number.
+    pub fn base_text(&self, alloc: Global, number: u64) -> Result<Bytes, NoMemory>
+        ensures { IfOk result (λ text. text ≡ base_text number self.now.bytes) }
+    {
+        if self.has_message_id() {
+            return Bytes::of(alloc, self.bytes());
+        }
+        text_with_id(alloc, number, self.bytes())
+    }
+}
