@@ -1,0 +1,269 @@
+// The state of the hub, as far as its history matters.
+ghost use Rattle.std.specs.Prelude.{◌≡◌, ◌+◌, ◌<◌, ◌≤◌, ◌^◌, ◌++◌, ◌∷◌, ◌↔◌, ◌&&◌, true, false, nat_lt, length, map, IfOk, OnOk, OnErr, IsErrOf, IsSome, find, bytes_eq, option_copied};
+ghost use Rattle.std.specs.List.{list_any};
+ghost use Rattle.mail_names.specs.declared.name.Mark.TheVariants as marks;
+ghost use Rattle.hub_core.specs.declared.queue.QueuedItem.{QueuedItem};
+ghost use Rattle.hub_core.specs.Standing.{start, state_after, is_lawful, is_release, are_named, use_texts, are_distinct, reply_submit, reply_to, now_of, is_named, same_name, place_of_same};
+
+use crate::live::{Live, is_uncategorised, mark, place_of_same};
+use crate::queue::{QueuedItem, find, is_waiting, mark_number, names_of, queued_all, take_out};
+use crate::{Command, Reply, StepFault};
+use mail_names::{Bytes, ItemName, NoMemory};
+use mail_plan::{Entry, Item, Release, Submission};
+use std::alloc::Global;
+use std::collections::VecDeque;
+use std::marker::Model;
+
+/// 9999-12-31T23:59:59Z.
+const LAST_MOMENT: u64 = 253_402_300_799;
+
+/// The state of the hub: its last moment, the submissions that it remembers, and the items that wait.
+#[derive(Drop)]
+pub struct State {
+    moment: u64,
+    live: Vec<Live>,
+    waiting: VecDeque<QueuedItem>,
+}
+
+impl Model for State {
+    ghost use Rattle.hub_core.specs.Standing.{Standing};
+    ghost use Rattle.std.specs.Prelude.{◌≤◌};
+
+    ghost Value = { Standing };
+
+    ghost view = { λ s. record { moment = s.moment; live = s.live.items; waiting = s.waiting.items } };
+
+    ghost invariant = { λ s. s.moment ≤ 253402300799 };
+}
+
+fn has_name(item: &Item, number: u64, release: u32, place: usize) -> bool
+    ensures { result ≡ same_name item.now.name (record { submission = number; release = release; place = place; mark = marks.Plain }) }
+{
+    item.name.submission == number
+        && item.name.release == release
+        && item.name.place as usize == place
+        && mark_number(item.name.mark) == 0
+}
+
+// Whether the items are named in order.
+fn are_named(number: u64, release: u32, items: &[Item]) -> bool
+    ensures { result ≡ are_named number release 0 items.now }
+{
+    for (i, item) in items.iter().enumerate() {
+        if !has_name(item, number, release, i) {
+            return false;
+        }
+    }
+    true
+}
+
+// Whether each of these texts is used, first in their order.
+fn use_texts(count: usize, items: &[Item]) -> bool
+    ensures { result ≡ use_texts 0 count items.now }
+{
+    let mut used = 0usize;
+    for item in items {
+        let text = item.text as usize;
+        if text > used {
+            return false;
+        }
+        if text == used {
+            used += 1;
+        }
+    }
+    used == count
+}
+
+fn holds_text(texts: &[Bytes], text: &Bytes) -> bool
+    ensures { result ≡ list_any (λ other. bytes_eq other text.now) texts.now }
+{
+    texts.iter().any(|other| *other == *text)
+}
+
+// Whether no text stands twice.
+fn are_distinct(texts: &[Bytes]) -> bool
+    ensures { result ≡ are_distinct texts.now }
+{
+    for (i, text) in texts.iter().enumerate() {
+        if holds_text(&texts[i + 1..], text) {
+            return false;
+        }
+    }
+    true
+}
+
+fn is_release(number: u64, release: u32, plan: &Release) -> bool
+    ensures { result ≡ is_release number release plan.now }
+{
+    are_named(number, release, plan.items.as_slice())
+        && use_texts(plan.texts.len(), plan.items.as_slice())
+        && are_distinct(plan.texts.as_slice())
+}
+
+impl State {
+    /// The state of the empty history.
+    pub fn start(alloc: Global) -> State
+        ensures { result ≡ start }
+    {
+        State {
+            moment: 0,
+            live: Vec::new(alloc),
+            waiting: VecDeque::new(alloc),
+        }
+    }
+
+    /// The greatest moment of the history.
+    pub fn moment(&self) -> u64
+        ensures { result ≡ self.now.moment }
+    {
+        self.moment
+    }
+
+    /// The moment that a command has at this clock.
+    pub fn now(&self, clock: u64) -> u64
+        ensures value { result ≡ now_of self.now clock }
+        ensures later { self.now.moment ≤ result }
+        ensures last { result ≤ 253402300799 }
+    {
+        clock.max(self.moment).min(LAST_MOMENT)
+    }
+
+    /// The submissions that were accepted, in the order of their numbers.
+    pub fn live(&self) -> &[Live]
+        ensures { result.now ≡ self.now.live }
+    {
+        &self.live
+    }
+
+    /// The number that the next new submission gets.
+    pub fn next_number(&self) -> u64
+        ensures { result ≡ length self.now.live + 1 }
+    {
+        self.live.len() as u64 + 1
+    }
+
+    /// Whether an item waits.
+    pub fn is_waiting(&self) -> bool
+        ensures { result ≡ nat_lt 0 (length self.now.waiting) }
+    {
+        !self.waiting.is_empty()
+    }
+
+    /// The names of the items that wait, in order.
+    pub fn waiting_names(&self, alloc: Global) -> Result<Vec<ItemName>, NoMemory>
+        ensures { IfOk result (λ names. names.items ≡ map (λ (item : QueuedItem). item.name) self.now.waiting) }
+    {
+        names_of(alloc, &self.waiting)
+    }
+
+    /// The item of this name, if it waits.
+    pub fn item(&self, name: &ItemName) -> Option<&QueuedItem>
+        ensures value { option_copied result ≡ find (is_named name.now) self.now.waiting }
+        ensures waits { IsSome result → is_lawful self.now (Entry.Delivered name.now) ≡ true }
+    {
+        find(&self.waiting, name)
+    }
+
+    /// What is answered to a command.
+    pub fn judge(&self, command: &Command) -> Reply
+        ensures { result ≡ reply_to self.now command.now }
+    {
+        match command {
+            Command::Submit { submission, .. } => self.judge_submit(submission),
+            Command::Commit { number, release } => self.judge_commit(*number, *release),
+            Command::Moment { .. } => Reply::Done,
+            Command::Delivered { name } => {
+                if is_waiting(&self.waiting, name) {
+                    Reply::Done
+                } else {
+                    Reply::NotNow
+                }
+            }
+        }
+    }
+
+    fn judge_submit(&self, submission: &Submission) -> Reply
+        ensures { result ≡ reply_submit self.now (place_of_same submission.now self.now.live) }
+    {
+        match place_of_same(&self.live, submission) {
+            Some(place) => Reply::Accepted {
+                number: place as u64 + 1,
+                repeat: true,
+            },
+            None => Reply::Accepted {
+                number: self.live.len() as u64 + 1,
+                repeat: false,
+            },
+        }
+    }
+
+    fn judge_commit(&self, number: u64, release: u32) -> Reply
+        ensures { result ≡ reply_to self.now (Command.Commit number release) }
+    {
+        if release != 0 || number == 0 {
+            return Reply::Unknown;
+        }
+        match self.live.get((number - 1) as usize) {
+            None => Reply::Unknown,
+            Some(live) if live.categorised => Reply::Already,
+            Some(_) => Reply::Committed,
+        }
+    }
+
+    fn is_lawful(&self, entry: &Entry) -> bool
+        ensures { result ≡ is_lawful self.now entry.now }
+    {
+        match entry {
+            Entry::Accepted { moment, submission } => {
+                self.moment <= *moment
+                    && *moment <= LAST_MOMENT
+                    && place_of_same(&self.live, submission).is_none()
+            }
+            Entry::Categorised {
+                number,
+                release,
+                plan,
+            } => {
+                *release == 0
+                    && *number >= 1
+                    && is_uncategorised(&self.live, (*number - 1) as usize)
+                    && is_release(*number, *release, plan)
+            }
+            Entry::Moment { moment } => self.moment <= *moment && *moment <= LAST_MOMENT,
+            Entry::Delivered { name } => is_waiting(&self.waiting, name),
+        }
+    }
+
+    /// Goes on by an entry, if it can stand behind those before it.
+    ///
+    /// After a refusal the state is as it was.
+    pub fn apply(&mut self, alloc: Global, entry: Entry) -> Result<(), StepFault>
+        ensures ok { OnOk result (self.new ≡ state_after self.old entry) }
+        ensures lawful { IsErrOf result StepFault.NotLawful ↔ (is_lawful self.old entry ≡ false) }
+        ensures err { OnErr result (self.new ≡ self.old) }
+    {
+        if !self.is_lawful(&entry) {
+            return Err(StepFault::NotLawful);
+        }
+        match entry {
+            Entry::Accepted { moment, submission } => {
+                let live = Live {
+                    submission,
+                    categorised: false,
+                };
+                self.live.push(live).map_err(|_| StepFault::NoMemory)?;
+                self.moment = moment;
+            }
+            Entry::Categorised { number, plan, .. } => {
+                let mut items = queued_all(alloc, plan).map_err(|_| StepFault::NoMemory)?;
+                self.waiting
+                    .append(&mut items)
+                    .map_err(|_| StepFault::NoMemory)?;
+                mark(&mut self.live, (number - 1) as usize);
+            }
+            Entry::Moment { moment } => self.moment = moment,
+            Entry::Delivered { name } => take_out(&mut self.waiting, &name),
+        }
+        Ok(())
+    }
+}
