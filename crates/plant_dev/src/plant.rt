@@ -4,7 +4,7 @@ ghost use Rattle.port_io.specs.Causes.{Rose};
 ghost use Rattle.plant_dev.specs.Disk.{State, Image, images, Stays, Reads, Writes, Holds, Gives, Durable, Shelves, Settles};
 ghost use Rattle.plant_dev.specs.Shelf.{PutBy, item_of, Tells, IsTold, HasAnswer, FetchAnswer, ListAnswer};
 
-use mail_names::{Bytes, ItemName, Key};
+use mail_names::{Bytes, ItemName, Key, NoMemory};
 use port_io::Failed;
 use std::alloc::Global;
 
@@ -14,6 +14,32 @@ pub struct Stored {
     pub folder: Key,
     pub name: ItemName,
     pub bytes: Bytes,
+}
+
+impl Stored {
+    ghost use Rattle.plant_dev.specs.Shelf.{item_of};
+
+    /// The item of this folder and name with these bytes.
+    pub fn of(
+        alloc: Global,
+        folder: &Key,
+        name: &ItemName,
+        bytes: &[u8],
+    ) -> Result<Stored, NoMemory>
+        ensures { IfOk result (λ i. i ≡ item_of folder.now name.now bytes.now) }
+    {
+        Ok(Stored {
+            folder: folder.copy(alloc)?,
+            name: *name,
+            bytes: Bytes::of(alloc, bytes)?,
+        })
+    }
+
+    pub fn copy(&self, alloc: Global) -> Result<Stored, NoMemory>
+        ensures { IfOk result (λ i. i ≡ self.now) }
+    {
+        Stored::of(alloc, &self.folder, &self.name, self.bytes.as_slice())
+    }
 }
 
 /// Why a call on the shelf was refused.
