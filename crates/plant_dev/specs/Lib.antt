@@ -6,3 +6,4 @@ pub mod History
 pub mod Replay
 pub mod Failures
 pub mod MemoryState
+pub mod Silent

@@ -2,6 +2,9 @@
 #![tactic(auto)]
 
 mod failures;
+mod file;
+mod file_shelf;
+mod folder;
 mod history;
 mod memory;
 mod plant;
@@ -9,5 +12,6 @@ mod replay;
 mod step;
 
 pub use failures::Failing;
+pub use file::{FilePlant, FilePlantFault};
 pub use memory::MemoryPlant;
 pub use plant::{Plant, ShelfFault, Stored};

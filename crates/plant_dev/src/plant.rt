@@ -6,7 +6,7 @@ ghost use Rattle.plant_dev.specs.Shelf.{PutBy, item_of, Tells, IsTold, HasAnswer
 
 use mail_names::{Bytes, ItemName, Key, NoMemory};
 use port_io::Failed;
-use std::alloc::Global;
+use std::alloc::{AllocError, AllocFailed, Global};
 
 /// An item on the shelf.
 #[derive(Drop)]
@@ -49,6 +49,36 @@ pub enum ShelfFault {
     Failed,
     /// Want of memory; nothing was put.
     NoMemory,
+}
+
+impl From<NoMemory> for ShelfFault {
+    ghost use Rattle.plant_dev.specs.declared.plant.ShelfFault.TheVariants as faults;
+
+    ghost from_gives = { λ _ e. e ≡ faults.NoMemory };
+
+    fn from(_: NoMemory) -> Self {
+        ShelfFault::NoMemory
+    }
+}
+
+impl From<AllocError> for ShelfFault {
+    ghost use Rattle.plant_dev.specs.declared.plant.ShelfFault.TheVariants as faults;
+
+    ghost from_gives = { λ _ e. e ≡ faults.NoMemory };
+
+    fn from(_: AllocError) -> Self {
+        ShelfFault::NoMemory
+    }
+}
+
+impl<T: Drop> From<AllocFailed<T>> for ShelfFault {
+    ghost use Rattle.plant_dev.specs.declared.plant.ShelfFault.TheVariants as faults;
+
+    ghost from_gives = { λ _ e. e ≡ faults.NoMemory };
+
+    fn from(_: AllocFailed<T>) -> Self {
+        ShelfFault::NoMemory
+    }
 }
 
 /// The hub's log file, whose places and lengths are in octets, and its shelf of items.
