@@ -1,2 +1,5 @@
 pub mod Removing
 pub mod Found
+pub mod Prescribed
+pub mod Sending
+pub mod Forming

@@ -1,12 +1,12 @@
 -- The items that a history prescribes, from its accepted submissions alone, and those of them that it delivered.
-use Rattle.std.specs.Prelude.{◌≡◌, ◌⊎◌, ℕ, ◌+◌, ◌-◌, ◌≤◌, List, [], ◌∷◌, ◌++◌, slice_get, Some}
+use Rattle.std.specs.Prelude.{◌≡◌, ◌⊎◌, ℕ, ◌+◌, ◌-◌, ◌≤◌, true, List, [], ◌∷◌, ◌++◌, slice_get, Some}
 use Rattle.mail_names.specs.declared.name.ItemName.{ItemName}
 use Rattle.mail_plan.specs.Submission.{Submitted}
 use Rattle.mail_plan.specs.declared.entry.Entry.{Entry}
 use Rattle.mail_plan.specs.declared.entry.Entry.TheVariants as entries
 use Rattle.hub_core.specs.declared.queue.QueuedItem.{QueuedItem}
 use Rattle.hub_core.specs.Release.{release_of}
-use Rattle.hub_core.specs.Standing.{Standing, standing, is_lawful, queued_all}
+use Rattle.hub_core.specs.Standing.{standing, is_lawful, queued_all}
 
 -- the submissions that were accepted, in order
 abbrev pub accepted : List Entry → List Submitted
@@ -45,3 +45,16 @@ CarriesRelease before (entries.Categorised number release plan) =
 CarriesRelease before (entries.Accepted moment submission) = Unit {0}
 CarriesRelease before (entries.Moment moment) = Unit {0}
 CarriesRelease before (entries.Delivered name) = Unit {0}
+
+-- An entry can stand behind this history.
+abbrev pub IsStep : List Entry → Entry → Type 0
+IsStep before entry = (is_lawful (standing before) entry ≡ true) × CarriesRelease before entry
+
+-- Each of these entries can stand behind those before it.
+abbrev pub AreSteps : List Entry → List Entry → Type 0
+AreSteps before [] = Unit {0}
+AreSteps before (entry ∷ entries) = IsStep before entry × AreSteps (before ++ entry ∷ []) entries
+
+-- a list of entries, each lawful after those before it, in which each release is the one that is prescribed
+abbrev pub IsHistory : List Entry → Type 0
+IsHistory history = AreSteps [] history

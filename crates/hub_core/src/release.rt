@@ -1,6 +1,7 @@
 // What a submission sends.
-ghost use Rattle.std.specs.Prelude.{◌≡◌, IfOk, OnOk};
+ghost use Rattle.std.specs.Prelude.{◌≡◌, true, IfOk, OnOk};
 ghost use Rattle.hub_core.specs.Release.{distinct, with_key, items_from, release_of};
+ghost use Rattle.hub_core.specs.Standing.{is_release};
 
 use mail_names::{Bytes, ItemName, Items, Key, Mark, NoMemory};
 use mail_plan::{Item, Release, Submission};
@@ -48,8 +49,7 @@ fn items_for(alloc: Global, number: u64, folders: &[Key]) -> Result<Items<Item>,
     Ok(items)
 }
 
-/// Release 0 of the submission of this number: the message that is sent for it, for each recipient once.
-pub fn plan(alloc: Global, number: u64, submission: &Submission) -> Result<Release, NoMemory>
+fn release_for(alloc: Global, number: u64, submission: &Submission) -> Result<Release, NoMemory>
     ensures { IfOk result (λ release. release ≡ release_of number submission.now) }
 {
     let folders = distinct(alloc, submission.recipients())?;
@@ -57,4 +57,13 @@ pub fn plan(alloc: Global, number: u64, submission: &Submission) -> Result<Relea
     let mut texts = Items::new(alloc);
     texts.push(submission.base_text(alloc, number)?)?;
     Ok(Release { texts, items })
+}
+
+/// Release 0 of the submission of this number: the message that is sent for it, for each recipient once.
+pub fn plan(alloc: Global, number: u64, submission: &Submission) -> Result<Release, NoMemory>
+    ensures value { IfOk result (λ release. release ≡ release_of number submission.now) }
+    ensures form { IfOk result (λ release. is_release number 0 release ≡ true) }
+{
+    let _some = submission.recipients();
+    release_for(alloc, number, submission)
 }

@@ -1,5 +1,5 @@
 // What is accepted.
-ghost use Rattle.std.specs.Prelude.{◌≡◌, true, IfOk, IfErr, Err, option_copied};
+ghost use Rattle.std.specs.Prelude.{◌≡◌, ◌<◌, ◌≤◌, true, length, IfOk, IfErr, Err, option_copied};
 ghost use Rattle.mail_message.specs.ReadOf.{read_of};
 ghost use Rattle.mail_plan.specs.Submission.{Submitted, is_some_text, has_id, option_eq, same_mark, same_submission, has_message_id, is_readable, unreadable, submission_read, submission_of, Fails, Gives};
 
@@ -55,13 +55,13 @@ pub struct Submission {
 
 impl Model for Submission {
     ghost use Rattle.mail_plan.specs.Submission.{Submitted, has_message_id, is_readable};
-    ghost use Rattle.std.specs.Prelude.{◌≡◌, true};
+    ghost use Rattle.std.specs.Prelude.{◌≡◌, ◌<◌, ◌≤◌, true, length};
 
     ghost Value = { Submitted };
 
     ghost view = { λ s. record { origin = s.origin; reverse = s.reverse; recipients = s.recipients; bytes = s.bytes } };
 
-    ghost invariant = { λ s. (s.has_id ≡ has_message_id s.bytes) × (is_readable s.bytes ≡ true) };
+    ghost invariant = { λ s. (s.has_id ≡ has_message_id s.bytes) × (is_readable s.bytes ≡ true) × (0 < length s.recipients) × (length s.recipients ≤ 1000) };
 }
 
 fn id_option(value: &Option<Bytes>) -> bool
@@ -174,7 +174,9 @@ impl Submission {
     }
 
     pub fn recipients(&self) -> &[Key]
-        ensures { result.now ≡ self.now.recipients }
+        ensures value { result.now ≡ self.now.recipients }
+        ensures some { 0 < length result.now }
+        ensures most { length result.now ≤ 1000 }
     {
         self.recipients.as_slice()
     }
