@@ -127,6 +127,11 @@ is_lawful s (entries.Categorised number release plan) =
 is_lawful s (entries.Moment moment) = is_moment s moment
 is_lawful s (entries.Delivered name) = list_any (is_named name) s.waiting
 
+-- the number of the submission at a place
+abbrev pub number_at : Option ℕ → Option ℕ
+number_at None = None
+number_at (Some place) = Some (place + 1)
+
 abbrev pub reply_submit : Standing → Option ℕ → Reply
 reply_submit s (Some place) = replies.Accepted (place + 1) true
 reply_submit s None = replies.Accepted (length s.live + 1) false

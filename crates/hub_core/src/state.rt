@@ -3,7 +3,7 @@ ghost use Rattle.std.specs.Prelude.{◌≡◌, ◌+◌, ◌<◌, ◌≤◌, ◌^
 ghost use Rattle.std.specs.List.{list_any};
 ghost use Rattle.mail_names.specs.declared.name.Mark.TheVariants as marks;
 ghost use Rattle.hub_core.specs.declared.queue.QueuedItem.{QueuedItem};
-ghost use Rattle.hub_core.specs.Standing.{start, state_after, is_lawful, is_release, are_named, use_texts, are_distinct, reply_submit, reply_to, now_of, is_named, same_name, place_of_same};
+ghost use Rattle.hub_core.specs.Standing.{start, state_after, is_lawful, is_release, are_named, use_texts, are_distinct, number_at, reply_submit, reply_to, now_of, is_named, same_name, place_of_same};
 
 use crate::live::{Live, is_uncategorised, mark, place_of_same};
 use crate::queue::{QueuedItem, find, is_waiting, mark_number, names_of, queued_all, take_out};
@@ -140,6 +140,16 @@ impl State {
         ensures { result ≡ length self.now.live + 1 }
     {
         self.live.len() as u64 + 1
+    }
+
+    /// The number of the submission that this one repeats, if it repeats one.
+    pub fn repeat_of(&self, submission: &Submission) -> Option<u64>
+        ensures { result ≡ number_at (place_of_same submission.now self.now.live) }
+    {
+        match place_of_same(&self.live, submission) {
+            Some(place) => Some(place as u64 + 1),
+            None => None,
+        }
     }
 
     /// Whether an item waits.

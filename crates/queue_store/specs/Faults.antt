@@ -1,0 +1,11 @@
+-- The hub's faults by those of the log.
+use Rattle.queue_disk.specs.declared.fault.LogFault.{LogFault}
+use Rattle.queue_disk.specs.declared.fault.LogFault.TheVariants as logs
+use Rattle.queue_store.specs.declared.fault.HubFault.{HubFault}
+use Rattle.queue_store.specs.declared.fault.HubFault.TheVariants as faults
+
+abbrev pub fault_of : LogFault → HubFault
+fault_of logs.DiskFault = faults.DiskFault
+fault_of (logs.NotALog at) = faults.NotALog at
+fault_of logs.NoMemory = faults.NoMemory
+fault_of (logs.LogFull length) = faults.LogFull length

@@ -1,0 +1,5 @@
+pub mod Stands
+pub mod Calls
+pub mod Ready
+pub mod Faults
+
