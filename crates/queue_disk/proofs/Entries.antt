@@ -1,0 +1,57 @@
+-- The text of a log with one entry more.
+use Rattle.std.proofs.Common.{◌≡◌, ◌⊎◌, inl, inr, ℕ, ◌+◌, List, [], ◌∷◌, ◌++◌, length, sym, ◌∙◌, ap, subst, arith, append_assoc, length-append}
+use Rattle.std.specs.Prelude.{codes}
+use Rattle.std.proofs.lemmas.List.{append-nil, map-append}
+use Rattle.mail_plan.specs.declared.entry.Entry.{Entry}
+use Rattle.mail_plan.specs.EntryText.{le64, entry_text}
+use Rattle.queue_disk.specs.Log.{records, log_text, payloads, log_of, Shut, Opened, OneMore}
+use Rattle.queue_disk.proofs.Numbers.{length-le64}
+
+pub records-push : (ps : List (List ℕ)) (payload : List ℕ) → records (ps ++ payload ∷ []) ≡ records ps ++ 1 ∷ (le64 (length payload) ++ payload)
+records-push [] payload = ap (λ (l : List ℕ). 1 ∷ (le64 (length payload) ++ l)) (append-nil payload)
+records-push (e ∷ ps) payload =
+    ap (λ (l : List ℕ). 1 ∷ (le64 (length e) ++ (e ++ l))) (records-push ps payload)
+    ∙ ap (λ (l : List ℕ). 1 ∷ (le64 (length e) ++ l)) (sym (append_assoc e (records ps) (1 ∷ (le64 (length payload) ++ payload))))
+    ∙ ap (λ (l : List ℕ). 1 ∷ l) (sym (append_assoc (le64 (length e)) (e ++ records ps) (1 ∷ (le64 (length payload) ++ payload))))
+
+pub log_text-push : (ps : List (List ℕ)) (payload : List ℕ) → log_text (ps ++ payload ∷ []) ≡ log_text ps ++ 1 ∷ (le64 (length payload) ++ payload)
+log_text-push ps payload =
+    ap (λ (l : List ℕ). codes "MAILHUB1" ++ l) (records-push ps payload) ∙ sym (append_assoc (codes "MAILHUB1") (records ps) (1 ∷ (le64 (length payload) ++ payload)))
+
+pub length-log_text : (ps : List (List ℕ)) (payload : List ℕ) → length (log_text (ps ++ payload ∷ [])) ≡ length (log_text ps) + length payload + 9
+length-log_text ps payload =
+    omega (arith, ap length (log_text-push ps payload), length-append (log_text ps) (1 ∷ (le64 (length payload) ++ payload)), length-append (le64 (length payload)) payload, length-le64 (length payload))
+
+-- behind an open gate the record and a closed gate make one entry more
+pub opened_is : (ps : List (List ℕ)) (payload file : List ℕ) → Opened (log_text ps) (le64 (length payload) ++ (payload ++ 0 ∷ [])) file → Shut (log_text (ps ++ payload ∷ [])) file
+opened_is ps payload file opened = record {
+  gate = 0;
+  rest = opened.rest;
+  text =
+      opened.text
+      ∙ ap (λ (l : List ℕ). log_text ps ++ 1 ∷ l) (inner opened.rest)
+      ∙ sym (append_assoc (log_text ps) (1 ∷ (le64 (length payload) ++ payload)) (0 ∷ opened.rest))
+      ∙ ap (λ (l : List ℕ). l ++ 0 ∷ opened.rest) (sym (log_text-push ps payload));
+  shut = λ e. omega (arith, e);
+}
+  where
+    inner : (rest : List ℕ) → (le64 (length payload) ++ (payload ++ 0 ∷ [])) ++ rest ≡ (le64 (length payload) ++ payload) ++ 0 ∷ rest
+    inner rest =
+        append_assoc (le64 (length payload)) (payload ++ 0 ∷ []) rest
+        ∙ ap (λ (l : List ℕ). le64 (length payload) ++ l) (append_assoc payload (0 ∷ []) rest)
+        ∙ sym (append_assoc (le64 (length payload)) payload (0 ∷ rest))
+
+pub payloads-push : (h : List Entry) (entry : Entry) → payloads (h ++ entry ∷ []) ≡ payloads h ++ entry_text entry ∷ []
+payloads-push h entry = map-append entry_text h (entry ∷ [])
+
+pub length-push : (h : List Entry) (entry : Entry) → length (log_of (h ++ entry ∷ [])) ≡ length (log_of h) + length (entry_text entry) + 9
+length-push h entry =
+    ap (λ (ps : List (List ℕ)). length (log_text ps)) (payloads-push h entry) ∙ length-log_text (payloads h) (entry_text entry)
+
+pub opened_entry : (h : List Entry) (entry : Entry) (file : List ℕ) → Opened (log_of h) (le64 (length (entry_text entry)) ++ (entry_text entry ++ 0 ∷ [])) file → Shut (log_of (h ++ entry ∷ [])) file
+opened_entry h entry file opened =
+    subst (λ (ps : List (List ℕ)). Shut (log_text ps) file) (sym (payloads-push h entry)) (opened_is (payloads h) (entry_text entry) file opened)
+
+pub one_more : (h : List Entry) (entry : Entry) (file : List ℕ) → Shut (log_of h) file ⊎ Opened (log_of h) (le64 (length (entry_text entry)) ++ (entry_text entry ++ 0 ∷ [])) file → OneMore h entry file
+one_more h entry file (inl shut) = inl (inr shut)
+one_more h entry file (inr opened) = inr (inr (opened_entry h entry file opened))

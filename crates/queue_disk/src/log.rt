@@ -1,0 +1,153 @@
+// The log: reading and adding entries.
+ghost use Rattle.std.specs.Prelude.{◌≡◌, ◌⊎◌, ◌+◌, ◌<◌, ◌≤◌, ◌^◌, ◌++◌, [], ◌∷◌, List, length, drop, IsTrue, OnOk, OnErr, IfOk, IfErr, IfSome, IfNone, IsErrOf};
+ghost use Rattle.port_io.specs.Causes.{Rose};
+ghost use Rattle.plant_dev.specs.Disk.{Stays, Reads, OnFile, LeavesOnly, From};
+ghost use Rattle.mail_plan.specs.declared.entry.Entry.{Entry};
+ghost use Rattle.mail_plan.specs.EntryText.{le64, entry_text};
+ghost use Rattle.queue_disk.specs.Reading.{NextAnswer};
+ghost use Rattle.queue_disk.specs.Log.{payloads, log_of, Shut, IsOpen, OneMore, FullAnswer};
+
+use crate::fault::LogFault;
+use crate::gated::write_behind;
+use crate::read::record_at;
+use mail_names::{Bytes, NoMemory};
+use mail_plan::{Entry, put_bytes};
+use plant_dev::Plant;
+use std::alloc::Global;
+use std::marker::Model;
+
+/// An open log: how far it has been read, and its greatest length in octets.
+#[derive(Drop)]
+pub struct Log {
+    place: u64,
+    gate: u64,
+    most: u64,
+}
+
+impl Model for Log {
+    ghost use Rattle.queue_disk.specs.View.{LogView};
+
+    ghost Value = { LogView };
+
+    ghost view = { λ l. record { place = l.place; gate = l.gate; most = l.most } };
+}
+
+// What is written behind the closed gate: the payload with its length, and the next gate, closed.
+fn framed(alloc: Global, payload: &Bytes) -> Result<Bytes, NoMemory>
+    ensures { IfOk result (λ bytes. bytes ≡ le64 (length payload.now) ++ (payload.now ++ 0 ∷ [])) }
+{
+    let mut bytes = Bytes::new(alloc);
+    put_bytes(&mut bytes, payload)?;
+    bytes.add(&[0])?;
+    Ok(bytes)
+}
+
+impl Log {
+    pub fn start(most: u64) -> Log
+        ensures { result ≡ record { place = 8; gate = 8; most = most } }
+    {
+        Log {
+            place: 8,
+            gate: 8,
+            most,
+        }
+    }
+
+    /// The place of the gate of the entry that was read last, and 8 where none was. It takes no memory.
+    pub fn gate(&self) -> u64
+        ensures { result ≡ self.now.gate }
+    {
+        self.gate
+    }
+
+    /// The payload of the next entry, or none at the closed gate.
+    pub fn next_text<P: Plant>(
+        &mut self,
+        alloc: Global,
+        plant: &mut P,
+    ) -> Result<Option<Bytes>, LogFault>
+        ensures stays { Stays (P.state plant.old) (P.state plant.new) }
+        ensures told { (P.state plant.new).told_shelf ≡ (P.state plant.old).told_shelf }
+        ensures cause { IsErrOf result LogFault.DiskFault → Rose (P.state plant.old).disk_faults (P.state plant.new).disk_faults }
+        ensures reads { IsTrue (P.state plant.old).honest → Reads (P.state plant.old) (P.state plant.new) }
+        ensures answer { IsTrue (P.state plant.old).honest → NextAnswer (drop self.old.place (P.state plant.old).image.file) self.old.place result }
+        ensures moves { IfOk result (λ found. IfSome found (λ payload. self.new ≡ record self.old { place = self.old.place + 9 + length payload; gate = self.old.place })) }
+        ensures fits { IfOk result (λ found. IfSome found (λ payload. self.new.place < 2 ^ 64)) }
+        ensures ends { IfOk result (λ found. IfNone found (self.new ≡ self.old)) }
+        ensures err { OnErr result (self.new ≡ self.old) }
+    {
+        let place = self.place;
+        match record_at(alloc, plant, place)? {
+            None => Ok(None),
+            Some(payload) => {
+                self.gate = place;
+                self.place = place + 9 + payload.as_slice().len() as u64;
+                Ok(Some(payload))
+            }
+        }
+    }
+
+    /// Adds an entry behind those of the log, which was read to its closed gate.
+    ///
+    /// After `DiskFault` the entry stands or doesn't, and the log is to be opened again. `LogFull` comes where the
+    /// log with the new record and its next gate would be longer than the log's limit. An entry with a list of
+    /// 2^32 elements or more is answered with want of memory.
+    pub fn append<P: Plant>(
+        &mut self,
+        alloc: Global,
+        plant: &mut P,
+        entry: &Entry,
+    ) -> Result<(), LogFault>
+        ensures stays { Stays (P.state plant.old) (P.state plant.new) }
+        ensures told { (P.state plant.new).told_shelf ≡ (P.state plant.old).told_shelf }
+        ensures cause { IsErrOf result LogFault.DiskFault → Rose (P.state plant.old).disk_faults (P.state plant.new).disk_faults }
+        ensures full { FullAnswer self.old.place self.old.most (length (entry_text entry.now)) result }
+        ensures as_before { OnErr result (self.new ≡ self.old) }
+        ensures untouched { IfErr result (λ e. (e ≡ LogFault.DiskFault) ⊎ (plant.new ≡ plant.old)) }
+        ensures shelf { IsTrue (P.state plant.old).honest → (P.state plant.new).image.shelf ≡ (P.state plant.old).image.shelf }
+
+        // A crash at any moment of the call leaves the entries with the new one or without, and the shelf as it was.
+        ensures any_moment { (h : List Entry) → IsTrue (P.state plant.old).honest → IsOpen (P.state plant.old) self.old.place h →
+            LeavesOnly (P.state plant.old) (P.state plant.new) (From (P.state plant.old) (OnFile (λ _ file. OneMore h entry.now file))) }
+        ensures acknowledged { (h : List Entry) → IsTrue (P.state plant.old).honest → IsOpen (P.state plant.old) self.old.place h →
+            OnOk result (IsOpen (P.state plant.new) self.new.place (h ++ entry.now ∷ [])) }
+    {
+        let payload = entry.text(alloc)?;
+        let size = payload.as_slice().len() as u64;
+        if self.most < self.place
+            || self.most - self.place < 10
+            || self.most - self.place - 10 < size
+        {
+            return Err(LogFault::LogFull {
+                length: self.place.saturating_add(1),
+            });
+        }
+        let bytes = framed(alloc, &payload)?;
+        write_behind(plant, self.place, bytes.as_slice())?;
+        self.place = self.place + size + 9;
+        Ok(())
+    }
+}
+
+/// Reads a log to its closed gate.
+pub fn read_all<P: Plant>(
+    alloc: Global,
+    plant: &mut P,
+    log: &mut Log,
+) -> Result<Vec<Bytes>, LogFault>
+    ensures stays { Stays (P.state plant.old) (P.state plant.new) }
+    ensures cause { IsErrOf result LogFault.DiskFault → Rose (P.state plant.old).disk_faults (P.state plant.new).disk_faults }
+    ensures reads { IsTrue (P.state plant.old).honest → Reads (P.state plant.old) (P.state plant.new) }
+    ensures entries { (h : List Entry) → IsTrue (P.state plant.old).honest → length (P.state plant.old).image.file < 2 ^ 64 → Shut (log_of h) (P.state plant.old).image.file → log.old.place ≡ 8 →
+        IfOk result (λ found. found.items ≡ payloads h) }
+    ensures end { (h : List Entry) → IsTrue (P.state plant.old).honest → length (P.state plant.old).image.file < 2 ^ 64 → Shut (log_of h) (P.state plant.old).image.file → log.old.place ≡ 8 →
+        OnOk result (log.new.place ≡ length (log_of h)) }
+    ensures never { (h : List Entry) → IsTrue (P.state plant.old).honest → length (P.state plant.old).image.file < 2 ^ 64 → Shut (log_of h) (P.state plant.old).image.file → log.old.place ≡ 8 →
+        IfErr result (λ e. (e ≡ LogFault.DiskFault) ⊎ (e ≡ LogFault.NoMemory)) }
+{
+    let mut payloads = Vec::new(alloc);
+    while let Some(payload) = log.next_text(alloc, plant)? {
+        payloads.push(payload)?;
+    }
+    Ok(payloads)
+}
