@@ -23,6 +23,10 @@ payloads h = map entry_text h
 abbrev pub log_of : List Entry → List ℕ
 log_of h = log_text (payloads h)
 
+-- what is written of a payload behind the closed gate: its length as u64, the payload, and the next gate, closed
+abbrev pub frame : List ℕ → List ℕ
+frame payload = le64 (length payload) ++ (payload ++ 0 ∷ [])
+
 -- these bytes, and behind them a gate that isn't open and any bytes
 pub record Shut (front file : List ℕ) : Type 0 where
   pub gate : ℕ
@@ -73,7 +77,7 @@ IsLog old after =
     ⊎ ((9 < length old) × (after ≡ old) × (take 8 old ≡ codes "MAILHUB1"))
 
 -- A log is full exactly where the new record and its next gate would pass the limit. Its length includes its closed gate.
-abbrev pub FullAnswer : ℕ → ℕ → ℕ → Result (Unit {0}) LogFault → Type 0
+abbrev pub FullAnswer : {T : Type 0} → ℕ → ℕ → ℕ → Result T LogFault → Type 0
 FullAnswer place most size (Ok _) = place + size + 10 ≤ most
 FullAnswer place most size (Err DiskFault) = place + size + 10 ≤ most
 FullAnswer place most size (Err NoMemory) = ⊤

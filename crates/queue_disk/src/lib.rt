@@ -8,5 +8,5 @@ mod open;
 mod read;
 
 pub use fault::LogFault;
-pub use log::{Log, read_all};
+pub use log::{Framed, Log, read_all};
 pub use open::open_log;

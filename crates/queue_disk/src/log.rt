@@ -1,11 +1,11 @@
 // The log: reading and adding entries.
-ghost use Rattle.std.specs.Prelude.{◌≡◌, ◌⊎◌, ◌+◌, ◌<◌, ◌≤◌, ◌^◌, ◌++◌, [], ◌∷◌, List, length, drop, IsTrue, OnOk, OnErr, IfOk, IfErr, IfSome, IfNone, IsErrOf};
+ghost use Rattle.std.specs.Prelude.{◌≡◌, ◌≢◌, ◌⊎◌, ◌+◌, ◌<◌, ◌≤◌, ◌^◌, ◌++◌, [], ◌∷◌, List, length, drop, IsTrue, OnOk, OnErr, IfOk, IfErr, IfSome, IfNone, IsErrOf};
 ghost use Rattle.port_io.specs.Causes.{Rose};
 ghost use Rattle.plant_dev.specs.Disk.{Stays, Reads, OnFile, LeavesOnly, From};
 ghost use Rattle.mail_plan.specs.declared.entry.Entry.{Entry};
 ghost use Rattle.mail_plan.specs.EntryText.{le64, entry_text};
 ghost use Rattle.queue_disk.specs.Reading.{NextAnswer};
-ghost use Rattle.queue_disk.specs.Log.{payloads, log_of, Shut, IsOpen, OneMore, FullAnswer};
+ghost use Rattle.queue_disk.specs.Log.{frame, payloads, log_of, Shut, IsOpen, OneMore, FullAnswer};
 
 use crate::fault::LogFault;
 use crate::gated::write_behind;
@@ -13,6 +13,7 @@ use crate::read::record_at;
 use mail_names::{Bytes, NoMemory};
 use mail_plan::{Entry, put_bytes};
 use plant_dev::Plant;
+use port_io::Failed;
 use std::alloc::Global;
 use std::marker::Model;
 
@@ -33,13 +34,27 @@ impl Model for Log {
 }
 
 // What is written behind the closed gate: the payload with its length, and the next gate, closed.
-fn framed(alloc: Global, payload: &Bytes) -> Result<Bytes, NoMemory>
+fn frame_of(alloc: Global, payload: &Bytes) -> Result<Bytes, NoMemory>
     ensures { IfOk result (λ bytes. bytes ≡ le64 (length payload.now) ++ (payload.now ++ 0 ∷ [])) }
 {
     let mut bytes = Bytes::new(alloc);
     put_bytes(&mut bytes, payload)?;
     bytes.add(&[0])?;
     Ok(bytes)
+}
+
+/// An entry's record, as it is written behind the closed gate: its length, its text and the next gate.
+#[derive(Drop)]
+pub struct Framed {
+    bytes: Bytes,
+}
+
+impl Model for Framed {
+    ghost use Rattle.std.specs.Prelude.{List, ℕ};
+
+    ghost Value = { List ℕ };
+
+    ghost view = { λ r. r.bytes };
 }
 
 impl Log {
@@ -112,6 +127,18 @@ impl Log {
         ensures acknowledged { (h : List Entry) → IsTrue (P.state plant.old).honest → IsOpen (P.state plant.old) self.old.place h →
             OnOk result (IsOpen (P.state plant.new) self.new.place (h ++ entry.now ∷ [])) }
     {
+        let framed = self.framed(alloc, entry)?;
+        self.write(plant, &framed)?;
+        Ok(())
+    }
+
+    /// The record of an entry, if there is memory for it and room in the log.
+    pub fn framed(&self, alloc: Global, entry: &Entry) -> Result<Framed, LogFault>
+        ensures bytes { IfOk result (λ r. r ≡ frame (entry_text entry.now)) }
+        ensures full { FullAnswer self.now.place self.now.most (length (entry_text entry.now)) result }
+        ensures room { IfOk result (λ r. self.now.place + length r + 1 < 2 ^ 64) }
+        ensures faults { IfErr result (λ e. e ≢ LogFault.DiskFault) }
+    {
         let payload = entry.text(alloc)?;
         let size = payload.as_slice().len() as u64;
         if self.most < self.place
@@ -122,9 +149,26 @@ impl Log {
                 length: self.place.saturating_add(1),
             });
         }
-        let bytes = framed(alloc, &payload)?;
-        write_behind(plant, self.place, bytes.as_slice())?;
-        self.place = self.place + size + 9;
+        let bytes = frame_of(alloc, &payload)?;
+        Ok(Framed { bytes })
+    }
+
+    /// Writes a record behind the entries of the log, which was read to its closed gate.
+    pub fn write<P: Plant>(&mut self, plant: &mut P, framed: &Framed) -> Result<(), Failed>
+        requires { self.old.place + length framed.now + 1 < 2 ^ 64 }
+        ensures stays { Stays (P.state plant.old) (P.state plant.new) }
+        ensures told { (P.state plant.new).told_shelf ≡ (P.state plant.old).told_shelf }
+        ensures cause { OnErr result (Rose (P.state plant.old).disk_faults (P.state plant.new).disk_faults) }
+        ensures as_before { OnErr result (self.new ≡ self.old) }
+        ensures shelf { IsTrue (P.state plant.old).honest → (P.state plant.new).image.shelf ≡ (P.state plant.old).image.shelf }
+        ensures any_moment { (h : List Entry) (entry : Entry) → framed.now ≡ frame (entry_text entry) → IsTrue (P.state plant.old).honest → IsOpen (P.state plant.old) self.old.place h →
+            LeavesOnly (P.state plant.old) (P.state plant.new) (From (P.state plant.old) (OnFile (λ _ file. OneMore h entry file))) }
+        ensures acknowledged { (h : List Entry) (entry : Entry) → framed.now ≡ frame (entry_text entry) → IsTrue (P.state plant.old).honest → IsOpen (P.state plant.old) self.old.place h →
+            OnOk result (IsOpen (P.state plant.new) self.new.place (h ++ entry ∷ [])) }
+    {
+        let bytes = framed.bytes.as_slice();
+        write_behind(plant, self.place, bytes)?;
+        self.place += bytes.len() as u64;
         Ok(())
     }
 }
