@@ -93,7 +93,7 @@ stands-put c c' h x stands among same puts = record {
   file = subst (λ (f : List ℕ). FileOf f h) (sym same) stands.file;
   within = keeps_within h x c.shelf c'.shelf among puts stands.within;
   delivered = λ name d. (let s = stands.delivered name d in
-      record { item = s.item; among = s.among; named = s.named; there = keeps_has (stored_of x) c.shelf c'.shelf s.item.folder name puts s.there });
+      record { item = s.item; among = s.among; named = s.named; there = keeps_has (stored_of x) c.shelf c'.shelf s.item.folder s.item.name puts s.there });
 }
 
 -- a prescribed item was put, or wasn't, whatever was answered

@@ -2,4 +2,3 @@ pub mod Stands
 pub mod Calls
 pub mod Ready
 pub mod Faults
-

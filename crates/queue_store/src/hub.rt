@@ -91,51 +91,18 @@ impl Hub {
         ensures stays { Stays (P.state plant.old) (P.state plant.new) }
         ensures cause { IsErrOf result HubFault.DiskFault → Rose (P.state plant.old).disk_faults (P.state plant.new).disk_faults }
     {
-        let record = self.log.record(alloc, &entry)?;
+        let framed = self.log.framed(alloc, &entry)?;
         match self.state.apply(alloc, entry) {
             Ok(()) => {}
             Err(StepFault::NoMemory) => return Err(HubFault::NoMemory),
             Err(StepFault::NotLawful) => unreachable!(),
         }
-        match self.log.write(plant, &record) {
+        match self.log.write(plant, &framed) {
             Ok(()) => Ok(()),
             Err(Failed) => {
                 self.broken = true;
                 Err(HubFault::DiskFault)
             }
-        }
-    }
-}
-
-impl Hub {
-    ghost use Rattle.std.specs.Prelude.{nat_le};
-    ghost use Rattle.hub_core.specs.Standing.{standing};
-    ghost use Rattle.queue_store.specs.Ready.{IsReady};
-    ghost use Rattle.queue_store.specs.Calls.{entries_submit, entries_at, entries_categorise, entries_try, entries_tries, entries_turn, IsAccepted, misses};
-
-    /// Accepts a submission at this clock (seconds since 1970-01-01T00:00:00Z), unless it repeats one.
-    pub fn submit<P: Plant>(
-        &mut self,
-        alloc: Global,
-        plant: &mut P,
-        submission: Submission,
-        clock: u64,
-    ) -> Result<Accepted, HubFault>
-        ensures ready { (h : List Entry) → IsReady (P.state plant.old) self.old h →
-            IfOk result (λ accepted. IsAccepted self.old.state submission accepted × IsReady (P.state plant.new) self.new (h ++ entries_submit self.old.state clock submission)) }
-        ensures kept { (h : List Entry) → IsReady (P.state plant.old) self.old h →
-            IfErr result (λ e. (e ≡ HubFault.DiskFault) ⊎ IsReady (P.state plant.new) self.new h) }
-        ensures shelf { IsTrue (P.state plant.old).honest → (P.state plant.new).image.shelf ≡ (P.state plant.old).image.shelf }
-        ensures stays { Stays (P.state plant.old) (P.state plant.new) }
-        ensures cause { IsErrOf result HubFault.DiskFault → Rose (P.state plant.old).disk_faults (P.state plant.new).disk_faults }
-    {
-        self.mend(alloc, plant)?;
-        match self.state.repeat_of(&submission) {
-            Some(number) => Ok(Accepted {
-                number,
-                repeat: true,
-            }),
-            None => self.accept(alloc, plant, submission, clock),
         }
     }
 }
