@@ -1,6 +1,7 @@
 -- The submissions that are remembered, and the items that are found among those that wait.
 use Rattle.std.proofs.Common.{◌≡◌, ◌⊎◌, ℕ, zero, suc, ◌+◌, ◌-◌, Bool, true, false, cond, eqb, List, [], ◌∷◌, ◌++◌, Option, Some, None, refl, ap, ◌∙◌, sym, subst, inl, inr, arith, append_assoc, append-nil}
-use Rattle.std.specs.Prelude.{fold, map, find, slice_get, slice_set, ◌&&◌}
+use Rattle.std.specs.Prelude.{fold, map, find, option_map, slice_get, slice_set, ◌&&◌, not}
+use Rattle.std.proofs.lemmas.Option.{slice_get-map}
 use Rattle.std.proofs.lemmas.Bool.Decides.{Decides-eqb}
 use Rattle.mail_names.specs.declared.name.ItemName.{ItemName}
 use Rattle.mail_names.specs.declared.name.Mark.{Mark}
@@ -10,7 +11,7 @@ use Rattle.mail_plan.specs.declared.entry.Entry.{Entry}
 use Rattle.mail_plan.specs.declared.entry.Entry.TheVariants as entries
 use Rattle.hub_core.specs.declared.queue.QueuedItem.{QueuedItem}
 use Rattle.hub_core.specs.declared.live.Live.{Live}
-use Rattle.hub_core.specs.Standing.{Standing, start, standing, state_after, mark, mark_at, mark_number, same_name, is_named}
+use Rattle.hub_core.specs.Standing.{Standing, start, standing, state_after, mark, mark_at, mark_number, same_name, is_named, is_uncategorised, uncategorised_of}
 use Rattle.hub_core.specs.Items.{accepted, Among}
 use Rattle.hub_core.proofs.Prescribed.{accepted-cons}
 
@@ -88,3 +89,27 @@ name_is a b h =
 -- the item of a name that is found is one of those, and has it
 pub found_named : (name : ItemName) (xs : List QueuedItem) (x : QueuedItem) → find (is_named name) xs ≡ Some x → Among x xs × (x.name ≡ name)
 found_named name xs x h = let f = found (is_named name) xs x h in (f.0, name_is x.name name f.1)
+
+some_is : (a b : Submitted) → Some a ≡ Some b → a ≡ b
+some_is a b e = cc
+
+some≢none : (a : Submitted) → None ≡ Some a → ⊥
+some≢none a e = cc
+
+by_test : (t : Bool) (live : Live) (s : Submitted) → live.categorised ≡ t → cond t None (Some live.submission) ≡ Some s → (not live.categorised ≡ true) × (live.submission ≡ s)
+by_test true live s e h = absurd (some≢none s h)
+by_test false live s e h = (ap not e, some_is live.submission s h)
+
+waits : (o : Option Live) (s : Submitted) → uncategorised_of o ≡ Some s → (is_uncategorised o ≡ true) × (option_map (λ (l : Live). l.submission) o ≡ Some s)
+waits None s h = absurd (some≢none s h)
+waits (Some live) s h = let both = by_test live.categorised live s refl h in (both.0, ap (λ (x : Submitted). Some x) both.1)
+
+-- a submission that waits to be categorised
+pub uncategorised_waits : (o : Option Live) (s : Submitted) → uncategorised_of o ≡ Some s → is_uncategorised o ≡ true
+uncategorised_waits o s h = (waits o s h).0
+
+-- it was accepted, at its place
+pub accepted_at : (h : List Entry) (place : ℕ) (s : Submitted) → uncategorised_of (slice_get (standing h).live place) ≡ Some s → slice_get (accepted h) place ≡ Some s
+accepted_at h place s e =
+    ap (λ (ss : List Submitted). slice_get ss place) (sym (live_accepted h))
+    ∙ slice_get-map (λ (l : Live). l.submission) (standing h).live place ∙ (waits (slice_get (standing h).live place) s e).1

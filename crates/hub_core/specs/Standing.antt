@@ -61,6 +61,11 @@ abbrev pub is_uncategorised : Option Live → Bool
 is_uncategorised None = false
 is_uncategorised (Some live) = not live.categorised
 
+-- the submission, if it waits to be categorised
+abbrev pub uncategorised_of : Option Live → Option Submitted
+uncategorised_of None = None
+uncategorised_of (Some live) = if live.categorised then None else Some live.submission
+
 abbrev pub mark_at : List Live → ℕ → Option Live → List Live
 mark_at lives place None = lives
 mark_at lives place (Some live) = slice_set lives place (record live { categorised = true })

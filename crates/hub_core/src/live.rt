@@ -1,7 +1,7 @@
 // The submissions that the hub remembers.
-ghost use Rattle.std.specs.Prelude.{◌≡◌, slice_get};
+ghost use Rattle.std.specs.Prelude.{◌≡◌, slice_get, option_copied};
 ghost use Rattle.mail_plan.specs.Submission.{same_submission};
-ghost use Rattle.hub_core.specs.Standing.{place_of_same, is_uncategorised, mark};
+ghost use Rattle.hub_core.specs.Standing.{place_of_same, is_uncategorised, uncategorised_of, mark};
 
 use mail_plan::Submission;
 
@@ -32,6 +32,17 @@ pub fn is_uncategorised(lives: &[Live], place: usize) -> bool
     match lives.get(place) {
         None => false,
         Some(live) => !live.categorised,
+    }
+}
+
+/// The submission that stands there and waits to be categorised.
+pub fn uncategorised(lives: &[Live], place: usize) -> Option<&Submission>
+    ensures { option_copied result ≡ uncategorised_of (slice_get lives.now place) }
+{
+    match lives.get(place) {
+        None => None,
+        Some(live) if live.categorised => None,
+        Some(live) => Some(&live.submission),
     }
 }
 

@@ -1,11 +1,11 @@
 // The state of the hub, as far as its history matters.
-ghost use Rattle.std.specs.Prelude.{◌≡◌, ◌+◌, ◌<◌, ◌≤◌, ◌^◌, ◌++◌, ◌∷◌, ◌↔◌, ◌&&◌, true, false, nat_lt, length, map, IfOk, OnOk, OnErr, IsErrOf, IsSome, find, bytes_eq, option_copied};
+ghost use Rattle.std.specs.Prelude.{◌≡◌, ◌+◌, ◌<◌, ◌≤◌, ◌^◌, ◌++◌, ◌∷◌, ◌↔◌, ◌&&◌, true, false, nat_lt, length, map, IfOk, OnOk, OnErr, IsErrOf, IsSome, find, bytes_eq, slice_get, option_copied};
 ghost use Rattle.std.specs.List.{list_any};
 ghost use Rattle.mail_names.specs.declared.name.Mark.TheVariants as marks;
 ghost use Rattle.hub_core.specs.declared.queue.QueuedItem.{QueuedItem};
-ghost use Rattle.hub_core.specs.Standing.{start, state_after, is_lawful, is_release, are_named, use_texts, are_distinct, number_at, reply_submit, reply_to, now_of, is_named, same_name, place_of_same};
+ghost use Rattle.hub_core.specs.Standing.{start, state_after, is_lawful, is_release, are_named, use_texts, are_distinct, number_at, uncategorised_of, reply_submit, reply_to, now_of, is_named, same_name, place_of_same};
 
-use crate::live::{Live, is_uncategorised, mark, place_of_same};
+use crate::live::{Live, is_uncategorised, mark, place_of_same, uncategorised};
 use crate::queue::{QueuedItem, find, is_waiting, mark_number, names_of, queued_all, take_out};
 use crate::{Command, Reply, StepFault};
 use mail_names::{Bytes, ItemName, NoMemory};
@@ -133,6 +133,13 @@ impl State {
         ensures { result.now ≡ self.now.live }
     {
         &self.live
+    }
+
+    /// The submission at this place (its number less 1), if it waits to be categorised.
+    pub fn uncategorised(&self, place: usize) -> Option<&Submission>
+        ensures { option_copied result ≡ uncategorised_of (slice_get self.now.live place) }
+    {
+        uncategorised(&self.live, place)
     }
 
     /// The number that the next new submission gets.

@@ -4,13 +4,12 @@ use Rattle.mail_names.specs.declared.name.ItemName.{ItemName}
 use Rattle.mail_plan.specs.Submission.{Submitted}
 use Rattle.mail_plan.specs.declared.entry.Entry.{Entry}
 use Rattle.mail_plan.specs.declared.entry.Entry.TheVariants as entries
-use Rattle.hub_core.specs.declared.live.Live.{Live}
 use Rattle.hub_core.specs.declared.queue.QueuedItem.{QueuedItem}
 use Rattle.hub_core.specs.Release.{release_of}
 use Rattle.mail_plan.specs.declared.intake.Accepted.{Accepted}
 use Rattle.hub_core.specs.declared.command.Reply.{Reply}
 use Rattle.hub_core.specs.declared.command.Reply.TheVariants as replies
-use Rattle.hub_core.specs.Standing.{Standing, state_after, now_of, is_named, place_of_same, reply_submit}
+use Rattle.hub_core.specs.Standing.{Standing, state_after, now_of, is_named, place_of_same, uncategorised_of, reply_submit}
 
 abbrev pub after_entries : Standing → List Entry → Standing
 after_entries s entries = fold state_after s entries
@@ -23,14 +22,13 @@ entries_new None s clock submission = entries.Accepted (now_of s clock) submissi
 abbrev pub entries_submit : Standing → ℕ → Submitted → List Entry
 entries_submit s clock submission = entries_new (place_of_same submission s.live) s clock submission
 
-abbrev pub entries_live : ℕ → Option Live → List Entry
-entries_live place None = []
-entries_live place (Some live) =
-    if live.categorised then [] else entries.Categorised (place + 1) 0 (release_of (place + 1) live.submission) ∷ []
+abbrev pub entries_made : ℕ → Option Submitted → List Entry
+entries_made place None = []
+entries_made place (Some submission) = entries.Categorised (place + 1) 0 (release_of (place + 1) submission) ∷ []
 
 -- what categorising the submission at a place adds: nothing where it is categorised
 abbrev pub entries_at : Standing → ℕ → List Entry
-entries_at s place = entries_live place (slice_get s.live place)
+entries_at s place = entries_made place (uncategorised_of (slice_get s.live place))
 
 -- what categorising at this many places adds, from a place on
 abbrev pub entries_all : ℕ → Standing → ℕ → List Entry

@@ -1,15 +1,17 @@
 // The hub: the state of its history, kept in step with the log.
-ghost use Rattle.std.specs.Prelude.{◌≡◌, ◌⊎◌, ◌<◌, ◌≤◌, ◌+◌, ℕ, List, [], ◌∷◌, ◌++◌, true, false, Bool, IsTrue, IsOk, map, length, IfOk, IfErr, OnOk, OnErr, IsErrOf};
-ghost use Rattle.port_io.specs.Causes.{Rose, RoseBy};
+ghost use Rattle.std.specs.Prelude.{◌≡◌, ◌⊎◌, ◌+◌, List, [], ◌∷◌, ◌++◌, true, false, IsTrue, IsOk, length, IfOk, IfErr, OnOk, IsErrOf, None};
+ghost use Rattle.port_io.specs.Causes.{Rose};
+ghost use Rattle.mail_plan.specs.declared.entry.Entry.TheVariants as entries;
 ghost use Rattle.mail_plan.specs.declared.entry.Entry.{Entry};
 ghost use Rattle.plant_dev.specs.Disk.{Stays};
-ghost use Rattle.hub_core.specs.Standing.{is_lawful, state_after};
+ghost use Rattle.hub_core.specs.Standing.{is_lawful, now_of, place_of_same, standing};
+
+mod delivery;
 
 use crate::HubFault;
-use hub_core::{State, StepFault, plan};
-use mail_names::ItemName;
+use hub_core::{State, StepFault};
 use mail_plan::{Accepted, Entry, Submission};
-use plant_dev::{Plant, ShelfFault};
+use plant_dev::Plant;
 use port_io::Failed;
 use queue_disk::{Log, open_log};
 use std::alloc::Global;
@@ -39,7 +41,7 @@ impl Model for Hub {
 impl Hub {
     ghost use Rattle.queue_store.specs.Stands.{Stands};
     ghost use Rattle.queue_store.specs.Ready.{IsReady, Follows};
-    ghost use Rattle.queue_store.specs.Calls.{entries_submit, entries_at, entries_categorise, entries_try, entries_tries, entries_turn, IsAccepted, misses};
+    ghost use Rattle.queue_store.specs.Calls.{entries_submit, IsAccepted};
 
     /// Opens the hub. A file of at most nine octets becomes a new log.
     pub fn open_hub<P: Plant>(alloc: Global, plant: &mut P) -> Result<Hub, HubFault>
@@ -103,6 +105,60 @@ impl Hub {
                 self.broken = true;
                 Err(HubFault::DiskFault)
             }
+        }
+    }
+
+    // Accepts a submission that repeats none.
+    fn accept<P: Plant>(
+        &mut self,
+        alloc: Global,
+        plant: &mut P,
+        submission: Submission,
+        clock: u64,
+    ) -> Result<Accepted, HubFault>
+        requires { place_of_same submission self.old.state.live ≡ None }
+        ensures accepted { IfOk result (λ accepted. accepted ≡ record { number = length self.old.state.live + 1; repeat = false }) }
+        ensures ready { (h : List Entry) → IsReady (P.state plant.old) self.old h →
+            OnOk result (IsReady (P.state plant.new) self.new (h ++ entries.Accepted (now_of self.old.state clock) submission ∷ [])) }
+        ensures kept { (h : List Entry) → IsReady (P.state plant.old) self.old h →
+            IfErr result (λ e. (e ≡ HubFault.DiskFault) ⊎ IsReady (P.state plant.new) self.new h) }
+        ensures shelf { IsTrue (P.state plant.old).honest → (P.state plant.new).image.shelf ≡ (P.state plant.old).image.shelf }
+        ensures stays { Stays (P.state plant.old) (P.state plant.new) }
+        ensures cause { IsErrOf result HubFault.DiskFault → Rose (P.state plant.old).disk_faults (P.state plant.new).disk_faults }
+    {
+        let number = self.state.next_number();
+        let moment = self.state.now(clock);
+        self.append(alloc, plant, Entry::Accepted { moment, submission })?;
+        Ok(Accepted {
+            number,
+            repeat: false,
+        })
+    }
+
+    /// Accepts a submission at this clock (seconds since 1970-01-01T00:00:00Z), unless it repeats one.
+    pub fn submit<P: Plant>(
+        &mut self,
+        alloc: Global,
+        plant: &mut P,
+        submission: Submission,
+        clock: u64,
+    ) -> Result<Accepted, HubFault>
+        ensures accepted { self.old.broken ≡ false → IfOk result (IsAccepted self.old.state submission) }
+        ensures ready { (h : List Entry) → IsReady (P.state plant.old) self.old h →
+            OnOk result (IsReady (P.state plant.new) self.new (h ++ entries_submit self.old.state clock submission)) }
+        ensures kept { (h : List Entry) → IsReady (P.state plant.old) self.old h →
+            IfErr result (λ e. (e ≡ HubFault.DiskFault) ⊎ IsReady (P.state plant.new) self.new h) }
+        ensures shelf { IsTrue (P.state plant.old).honest → (P.state plant.new).image.shelf ≡ (P.state plant.old).image.shelf }
+        ensures stays { Stays (P.state plant.old) (P.state plant.new) }
+        ensures cause { IsErrOf result HubFault.DiskFault → Rose (P.state plant.old).disk_faults (P.state plant.new).disk_faults }
+    {
+        self.mend(alloc, plant)?;
+        match self.state.repeat_of(&submission) {
+            Some(number) => Ok(Accepted {
+                number,
+                repeat: true,
+            }),
+            None => self.accept(alloc, plant, submission, clock),
         }
     }
 }

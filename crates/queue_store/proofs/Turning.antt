@@ -1,0 +1,68 @@
+-- Runs of calls: categorising place by place, and trying item by item.
+use Rattle.std.proofs.Common.{◌≡◌, ◌⊎◌, ℕ, suc, ◌+◌, ◌-◌, ◌^◌, ◌<◌, ◌≤◌, min, cond, Bool, true, false, List, [], ◌∷◌, ◌++◌, length, get_or, drop, refl, ap, ◌∙◌, sym, subst, arith, inl, inr, append_assoc, append-nil}
+use Rattle.std.specs.Prelude.{fold, not}
+use Rattle.std.proofs.lemmas.List.{drop_more}
+use Rattle.std.proofs.lemmas.Grind.{fold-append}
+use Rattle.mail_names.specs.declared.name.ItemName.{ItemName}
+use Rattle.mail_plan.specs.declared.entry.Entry.{Entry}
+use Rattle.port_io.specs.Causes.{Rose, RoseBy}
+use Rattle.plant_dev.specs.Disk.{State}
+use Rattle.hub_core.specs.Standing.{Standing, start, standing, state_after}
+use Rattle.queue_store.specs.Ready.{Kept, IsReady}
+use Rattle.queue_store.specs.Calls.{after_entries, entries_at, entries_all, entries_try, entries_tries, misses}
+
+-- the state goes on by what was added
+pub state-goes : (s s' : State) (hub hub' : Kept) (h es : List Entry) → IsReady s hub h → IsReady s' hub' (h ++ es) → hub'.state ≡ after_entries hub.state es
+state-goes s s' hub hub' h es before after =
+    after.state ∙ fold-append state_after start h es ∙ ap (λ (st : Standing). fold state_after st es) (sym before.state)
+
+pub ready-joined : (s : State) (hub : Kept) (h xs ys : List Entry) → IsReady s hub ((h ++ xs) ++ ys) → IsReady s hub (h ++ (xs ++ ys))
+ready-joined s hub h xs ys ready = subst (λ (g : List Entry). IsReady s hub g) (append_assoc h xs ys) ready
+
+pub all_step : (count place : ℕ) (s : Standing) → place < count →
+    entries_all (count - place) s place ≡ entries_at s place ++ entries_all (count - (place + 1)) (after_entries s (entries_at s place)) (place + 1)
+all_step count place s below =
+    let more : count - place ≡ suc (count - (place + 1)) = omega arith in
+    ap (λ n. entries_all n s place) more
+
+-- one place more
+pub all_more : (count place : ℕ) (s s' : Standing) (done es whole : List Entry) → place < count → es ≡ entries_at s place → s' ≡ after_entries s es →
+    done ++ entries_all (count - place) s place ≡ whole → (done ++ es) ++ entries_all (count - (place + 1)) s' (place + 1) ≡ whole
+all_more count place s s' done es whole below is state so_far =
+    append_assoc done es (entries_all (count - (place + 1)) s' (place + 1))
+    ∙ ap (λ st. done ++ (es ++ entries_all (count - (place + 1)) st (place + 1))) state
+    ∙ ap (λ (xs : List Entry). done ++ (xs ++ entries_all (count - (place + 1)) (after_entries s xs) (place + 1))) is
+    ∙ ap (λ xs. done ++ xs) (sym (all_step count place s below)) ∙ so_far
+
+-- A front of the names was tried: what is left goes on from there.
+pub record Tried (s : Standing) (names : List ItemName) (puts : List Bool) (done : List Entry) (s' : Standing) (left : List ItemName) : Type 0 where
+  pub log : (more : List Bool) → entries_tries s names (puts ++ more) ≡ done ++ entries_tries s' left more
+
+pub Tried-none : (s : Standing) (names : List ItemName) → Tried s names [] [] s names
+Tried-none s names = record { log = λ more. refl }
+
+pub Tried-more : (s : Standing) (names : List ItemName) (puts : List Bool) (done : List Entry) (s' : Standing) (i : ℕ) (d name : ItemName) (put : Bool) (s'' : Standing) →
+    i < length names → name ≡ get_or names i d → Tried s names puts done s' (drop i names) → s'' ≡ after_entries s' (entries_try s' name put) →
+    Tried s names (puts ++ put ∷ []) (done ++ entries_try s' name put) s'' (drop (i + 1) names)
+Tried-more s names puts done s' i d name put s'' below is tried state =
+    let es = entries_try s' name put in
+    let left : drop i names ≡ name ∷ drop (i + 1) names = drop_more names i d below ∙ ap (λ n. n ∷ drop (i + 1) names) (sym is) in
+    record {
+      log = λ more.
+          ap (entries_tries s names) (append_assoc puts (put ∷ []) more) ∙ tried.log (put ∷ more)
+          ∙ ap (λ ns. done ++ entries_tries s' ns (put ∷ more)) left
+          ∙ ap (λ st. done ++ (es ++ entries_tries st (drop (i + 1) names) more)) (sym state)
+          ∙ sym (append_assoc done es (entries_tries s'' (drop (i + 1) names) more));
+    }
+
+pub Tried-all : (s : Standing) (names : List ItemName) (puts : List Bool) (done : List Entry) (s' : Standing) (left : List ItemName) →
+    left ≡ [] → Tried s names puts done s' left → done ≡ entries_tries s names puts
+Tried-all s names puts done s' left none tried =
+    sym (tried.log [] ∙ ap (λ ns. done ++ entries_tries s' ns []) none ∙ append-nil done) ∙ ap (entries_tries s names) (append-nil puts)
+
+-- a put more: the count of faults rose where it failed
+pub misses-more : (puts : List Bool) (put : Bool) (before mid now : ℕ) → RoseBy (misses puts) before mid → mid ≤ now → (put ≡ false → Rose mid now) → RoseBy (misses (puts ++ put ∷ [])) before now
+misses-more puts true before mid now so_far later rose =
+    let more : misses (puts ++ true ∷ []) ≡ misses puts + 0 = fold-append (λ a x. a + cond (not x) 1 0) 0 puts (true ∷ []) in omega (arith, more, so_far, later)
+misses-more puts false before mid now so_far later rose =
+    let more : misses (puts ++ false ∷ []) ≡ misses puts + 1 = fold-append (λ a x. a + cond (not x) 1 0) 0 puts (false ∷ []) in omega (arith, more, so_far, rose refl)

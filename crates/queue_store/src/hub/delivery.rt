@@ -1,0 +1,199 @@
+// Categorising what was accepted, and turns in which what waits is tried.
+ghost use Rattle.std.specs.Prelude.{◌≡◌, ◌⊎◌, ◌+◌, ◌<◌, ◌^◌, length, List, ◌++◌, false, Bool, IsTrue, IfOk, IfErr, OnOk, IsErrOf, Ok, true};
+ghost use Rattle.port_io.specs.Causes.{Rose, RoseBy};
+ghost use Rattle.mail_plan.specs.declared.entry.Entry.{Entry};
+ghost use Rattle.plant_dev.specs.Disk.{Stays};
+ghost use Rattle.plant_dev.specs.Shelf.{Has};
+ghost use Rattle.hub_core.specs.Items.{items, Among};
+ghost use Rattle.queue_store.specs.Ready.{Kept, IsReady};
+
+use super::Hub;
+use crate::HubFault;
+use hub_core::{QueuedItem, plan};
+use mail_names::{ItemName, NoMemory};
+use mail_plan::Entry;
+use plant_dev::{Plant, ShelfFault};
+use std::alloc::Global;
+
+impl Hub {
+    ghost use Rattle.queue_store.specs.Calls.{entries_at, entries_categorise, entries_try, entries_tries, entries_turn, misses};
+
+    // Categorises the submission at a place, unless it is.
+    fn categorise_at<P: Plant>(
+        &mut self,
+        alloc: Global,
+        plant: &mut P,
+        place: usize,
+    ) -> Result<(), HubFault>
+        requires { place + 1 < 2 ^ 64 }
+        ensures ready { (h : List Entry) → IsReady (P.state plant.old) self.old h →
+            OnOk result (IsReady (P.state plant.new) self.new (h ++ entries_at self.old.state place)) }
+        ensures kept { (h : List Entry) → IsReady (P.state plant.old) self.old h →
+            IfErr result (λ e. (e ≡ HubFault.DiskFault) ⊎ IsReady (P.state plant.new) self.new h) }
+        ensures stays { Stays (P.state plant.old) (P.state plant.new) }
+        ensures cause { IsErrOf result HubFault.DiskFault → Rose (P.state plant.old).disk_faults (P.state plant.new).disk_faults }
+    {
+        match self.state.uncategorised(place) {
+            None => Ok(()),
+            Some(submission) => {
+                let number = place as u64 + 1;
+                let plan = plan(alloc, number, submission)?;
+                let entry = Entry::Categorised {
+                    number,
+                    release: 0,
+                    plan,
+                };
+                self.append(alloc, plant, entry)
+            }
+        }
+    }
+
+    // Tries to put an item that waits. The answer is false where the shelf failed.
+    fn try_item<P: Plant>(
+        &mut self,
+        alloc: Global,
+        plant: &mut P,
+        name: ItemName,
+    ) -> Result<bool, HubFault>
+        ensures ready { (h : List Entry) → IsReady (P.state plant.old) self.old h →
+            IfOk result (λ put. IsReady (P.state plant.new) self.new (h ++ entries_try self.old.state name put)) }
+        ensures kept { (h : List Entry) → IsReady (P.state plant.old) self.old h →
+            IfErr result (λ e. (e ≡ HubFault.DiskFault) ⊎ IsReady (P.state plant.new) self.new h) }
+        ensures missed { result ≡ Ok false → Rose (P.state plant.old).shelf_faults (P.state plant.new).shelf_faults }
+        ensures stays { Stays (P.state plant.old) (P.state plant.new) }
+        ensures cause { IsErrOf result HubFault.DiskFault → Rose (P.state plant.old).disk_faults (P.state plant.new).disk_faults }
+    {
+        match self.state.item(&name) {
+            None => Ok(true),
+            Some(item) => match shelve(alloc, plant, item) {
+                Err(fault) => Err(fault),
+                Ok(false) => Ok(false),
+                Ok(true) => match self.append(alloc, plant, Entry::Delivered { name }) {
+                    Ok(()) => Ok(true),
+                    Err(fault) => Err(fault),
+                },
+            },
+        }
+    }
+
+    // Categorises each submission that isn't, where the log is open.
+    fn categorise_each<P: Plant>(&mut self, alloc: Global, plant: &mut P) -> Result<(), HubFault>
+        ensures ready { (h : List Entry) → IsReady (P.state plant.old) self.old h →
+            OnOk result (IsReady (P.state plant.new) self.new (h ++ entries_categorise self.old.state)) }
+        ensures kept { (h : List Entry) → IsReady (P.state plant.old) self.old h →
+            IfErr result (λ e. (e ≡ HubFault.DiskFault) ⊎ ((done : List Entry) × IsReady (P.state plant.new) self.new (h ++ done))) }
+        ensures stays { Stays (P.state plant.old) (P.state plant.new) }
+        ensures cause { IsErrOf result HubFault.DiskFault → Rose (P.state plant.old).disk_faults (P.state plant.new).disk_faults }
+    {
+        let count = self.state.live().len();
+        for place in 0..count {
+            match self.categorise_at(alloc, plant, place) {
+                Ok(()) => {}
+                Err(fault) => return Err(fault),
+            }
+        }
+        Ok(())
+    }
+
+    /// Categorises each submission that isn't, in the order of their numbers.
+    pub fn categorise_all<P: Plant>(&mut self, alloc: Global, plant: &mut P) -> Result<(), HubFault>
+        ensures ready { (h : List Entry) → IsReady (P.state plant.old) self.old h →
+            OnOk result (IsReady (P.state plant.new) self.new (h ++ entries_categorise self.old.state)) }
+        ensures kept { (h : List Entry) → IsReady (P.state plant.old) self.old h →
+            IfErr result (λ e. (e ≡ HubFault.DiskFault) ⊎ ((done : List Entry) × IsReady (P.state plant.new) self.new (h ++ done))) }
+        ensures stays { Stays (P.state plant.old) (P.state plant.new) }
+        ensures cause { IsErrOf result HubFault.DiskFault → Rose (P.state plant.old).disk_faults (P.state plant.new).disk_faults }
+    {
+        self.mend(alloc, plant)?;
+        self.categorise_each(alloc, plant)
+    }
+
+    // Tries each of these items once, in order.
+    fn try_all<P: Plant>(
+        &mut self,
+        alloc: Global,
+        plant: &mut P,
+        names: &[ItemName],
+    ) -> Result<(), HubFault>
+        ensures ready { (h : List Entry) → IsReady (P.state plant.old) self.old h → OnOk result ((puts : List Bool)
+            × IsReady (P.state plant.new) self.new (h ++ entries_tries self.old.state names.now puts)
+            × RoseBy (misses puts) (P.state plant.old).shelf_faults (P.state plant.new).shelf_faults) }
+        ensures kept { (h : List Entry) → IsReady (P.state plant.old) self.old h →
+            IfErr result (λ e. (e ≡ HubFault.DiskFault) ⊎ ((done : List Entry) × IsReady (P.state plant.new) self.new (h ++ done))) }
+        ensures stays { Stays (P.state plant.old) (P.state plant.new) }
+        ensures cause { IsErrOf result HubFault.DiskFault → Rose (P.state plant.old).disk_faults (P.state plant.new).disk_faults }
+    {
+        for name in names {
+            match self.try_item(alloc, plant, *name) {
+                Ok(_) => {}
+                Err(fault) => return Err(fault),
+            }
+        }
+        Ok(())
+    }
+
+    // A turn where an item waits and the log is open.
+    fn turn_over<P: Plant>(
+        &mut self,
+        alloc: Global,
+        plant: &mut P,
+        clock: u64,
+    ) -> Result<(), HubFault>
+        requires { 0 < length self.old.state.waiting }
+        ensures ready { (h : List Entry) → IsReady (P.state plant.old) self.old h → OnOk result ((puts : List Bool)
+            × IsReady (P.state plant.new) self.new (h ++ entries_turn self.old.state clock puts)
+            × RoseBy (misses puts) (P.state plant.old).shelf_faults (P.state plant.new).shelf_faults) }
+        ensures kept { (h : List Entry) → IsReady (P.state plant.old) self.old h →
+            IfErr result (λ e. (e ≡ HubFault.DiskFault) ⊎ ((done : List Entry) × IsReady (P.state plant.new) self.new (h ++ done))) }
+        ensures stays { Stays (P.state plant.old) (P.state plant.new) }
+        ensures cause { IsErrOf result HubFault.DiskFault → Rose (P.state plant.old).disk_faults (P.state plant.new).disk_faults }
+    {
+        let names = match self.state.waiting_names(alloc) {
+            Ok(names) => names,
+            Err(NoMemory) => return Err(HubFault::NoMemory),
+        };
+        let moment = self.state.now(clock);
+        match self.append(alloc, plant, Entry::Moment { moment }) {
+            Ok(()) => self.try_all(alloc, plant, &names),
+            Err(fault) => Err(fault),
+        }
+    }
+
+    /// A turn at this clock (seconds since 1970-01-01T00:00:00Z): each item that waits is tried once, in order.
+    /// Where none waits nothing is added.
+    pub fn turn<P: Plant>(
+        &mut self,
+        alloc: Global,
+        plant: &mut P,
+        clock: u64,
+    ) -> Result<(), HubFault>
+        ensures ready { (h : List Entry) → IsReady (P.state plant.old) self.old h → OnOk result ((puts : List Bool)
+            × IsReady (P.state plant.new) self.new (h ++ entries_turn self.old.state clock puts)
+            × RoseBy (misses puts) (P.state plant.old).shelf_faults (P.state plant.new).shelf_faults) }
+        ensures kept { (h : List Entry) → IsReady (P.state plant.old) self.old h →
+            IfErr result (λ e. (e ≡ HubFault.DiskFault) ⊎ ((done : List Entry) × IsReady (P.state plant.new) self.new (h ++ done))) }
+        ensures stays { Stays (P.state plant.old) (P.state plant.new) }
+        ensures cause { IsErrOf result HubFault.DiskFault → Rose (P.state plant.old).disk_faults (P.state plant.new).disk_faults }
+    {
+        self.mend(alloc, plant)?;
+        if !self.state.is_waiting() {
+            return Ok(());
+        }
+        self.turn_over(alloc, plant, clock)
+    }
+}
+
+// Puts an item into its folder. The answer is false where the shelf failed.
+fn shelve<P: Plant>(alloc: Global, plant: &mut P, item: &QueuedItem) -> Result<bool, HubFault>
+    ensures ready { (h : List Entry) (hub : Kept) → IsReady (P.state plant.old) hub h → Among item.now (items h) → IsReady (P.state plant.new) hub h }
+    ensures there { IsTrue (P.state plant.old).honest → result ≡ Ok true → Has item.now.folder item.now.name (P.state plant.new).image.shelf }
+    ensures missed { result ≡ Ok false → Rose (P.state plant.old).shelf_faults (P.state plant.new).shelf_faults }
+    ensures only { IfErr result (λ e. e ≡ HubFault.NoMemory) }
+    ensures stays { Stays (P.state plant.old) (P.state plant.new) }
+{
+    match plant.put(alloc, &item.folder, &item.name, item.text.as_slice()) {
+        Ok(()) => Ok(true),
+        Err(ShelfFault::Failed) => Ok(false),
+        Err(ShelfFault::NoMemory) => Err(HubFault::NoMemory),
+    }
+}
