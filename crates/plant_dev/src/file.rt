@@ -182,3 +182,6 @@ impl<R: Files + Drop> Plant for FilePlant<R> {
         }
     }
 }
+
+#[cfg(test)]
+mod tests;

@@ -223,3 +223,6 @@ impl Plant for MemoryPlant {
         }
     }
 }
+
+#[cfg(test)]
+mod tests;
