@@ -38,8 +38,8 @@ pub record Asked {I : Type 0} (gives : I → IntakeStep → I → Type 0) (a b :
   pub answer : Result Accepted IntakeFault
   pub steps : Steps gives a (asks deed moment answer) b
   pub clock : Gave old new (ticks deed moment)
-  pub reply : reply ≡ reply_of deed answer
-  pub end : end ≡ end_of deed answer
+  pub is_reply : reply ≡ reply_of deed answer
+  pub is_end : end ≡ end_of deed answer
 
 -- What draining does from a session's turns so far.
 abbrev pub Drains : {I : Type 0} → (I → IntakeStep → I → Type 0) → Phase → Held → I → I → (ℕ → Option ℕ) → (ℕ → Option ℕ) → Option (List ℕ) → Option (List ℕ) → Dialog → Drained → Type 0
