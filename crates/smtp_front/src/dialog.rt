@@ -1,10 +1,11 @@
 // A session's text as events, whatever pieces it comes in.
-ghost use Rattle.std.specs.Prelude.{◌≡◌, ℕ, ◌<◌, ◌≤◌, ◌+◌, ◌-◌, ◌++◌, ◌∷◌, List, [], length, take, true, IfOk, OnOk, OnErr, OnSome, Option, Some, None, Ok};
+ghost use Rattle.std.specs.Prelude.{◌≡◌, ℕ, ◌<◌, ◌≤◌, ◌+◌, ◌-◌, ◌^◌, ◌++◌, ◌∷◌, List, [], length, take, slice_index, true, IfOk, OnOk, OnErr, OnSome, Option, Some, None, Ok};
 ghost use Rattle.std.specs.List.{flat_map};
 ghost use Rattle.smtp_front.specs.Events.{Held, nothing, fed, command, unstuffed, kept, content, next_of, is_between};
 ghost use Rattle.smtp_front.specs.Holds.{ends_cr, IsPart, IsContent, Holds, Answers, Took, unread, kept_in};
 
 use crate::part::Part;
+use crate::texts::before;
 use mail_names::{Bytes, NoMemory};
 use std::alloc::Global;
 use std::mem;
@@ -123,25 +124,33 @@ impl Dialog {
         requires { self.old.at < length self.old.held }
         ensures ok { (held : Held) → Holds self.old held → IfOk result (λ event. Took event self.new held) }
         ensures err { OnErr result (self.new ≡ self.old) }
-        ensures later { IfOk result (λ event. (self.old.at < self.new.at) × (self.new.at ≤ length self.new.held) × (self.new.held ≡ self.old.held)) }
+        ensures later { IfOk result (λ event. (self.old.at < self.new.at) × (self.new.at ≤ length self.old.held) × (self.new.held ≡ self.old.held)) }
     {
-        let rest = &self.held.as_slice()[self.at..];
-        let run = rest.iter().position(|b| *b == b'\n').unwrap_or(rest.len());
-        if run > 0 {
-            self.part.add(&rest[..run])?;
-            self.at += run;
+        let run = before(&self.held.as_slice()[self.at..], b'\n');
+        let count = run.len();
+        if count > 0 {
+            self.part.add(run)?;
+            self.at += count;
             return Ok(None);
         }
-        if !self.part.ends_cr() {
-            self.part.add(b"\n")?;
-            self.at += 1;
-            return Ok(None);
+        if self.part.ends_cr() {
+            return self.end_line(alloc);
         }
-        self.end_line(alloc)
+        self.part.add(b"\n")?;
+        self.at += 1;
+        Ok(None)
     }
 
-    // Ends the line at the LF that comes next.
-    fn end_line(&mut self, alloc: Global) -> Result<Option<Event>, NoMemory> {
+    // Ends the line at the LF that comes next, behind a CR.
+    fn end_line(&mut self, alloc: Global) -> Result<Option<Event>, NoMemory>
+        requires next { self.old.at < length self.old.held }
+        requires fits { self.old.at + 1 < 2 ^ 64 }
+        requires lf { slice_index self.old.held self.old.at ≡ 10 }
+        requires cr { self.old.part.last ≡ 13 }
+        ensures ok { (held : Held) → Holds self.old held → IfOk result (λ event. Took event self.new held) }
+        ensures err { OnErr result (self.new ≡ self.old) }
+        ensures later { IfOk result (λ event. (self.new.at ≡ self.old.at + 1) × (self.new.held ≡ self.old.held)) }
+    {
         if !self.awaits {
             let event = command(alloc, &self.part)?;
             self.part = Part::new(alloc);

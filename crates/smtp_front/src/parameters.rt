@@ -1,5 +1,7 @@
 // The parameters of MAIL (RFC 1870, RFC 6152).
 ghost use Rattle.std.specs.Prelude.{◌≡◌, ◌+◌, ◌≤◌, ◌-◌, ◌^◌, min, length};
+ghost use Rattle.std.specs.List.{list_all};
+ghost use Rattle.std.specs.Char.{is_ascii_digit};
 ghost use Rattle.smtp_front.specs.Parameters.{words_of, number_of, is_size, size_refusal, body_refusal, parameter_refusal, first_refusal, any_refusal, refusal_of};
 
 use crate::reply::Line;
@@ -8,11 +10,17 @@ use crate::texts::{before, beyond, front, is_same, unspaced};
 /// The most octets of a content.
 const MOST: u64 = 1_048_576;
 
+fn is_number(text: &[u8]) -> bool
+    ensures { result ≡ list_all is_ascii_digit text.now }
+{
+    text.iter().all(|b| b.is_ascii_digit())
+}
+
 // Whether this is 1 to 20 digits.
 fn is_size(value: &[u8]) -> bool
     ensures { result ≡ is_size value.now }
 {
-    0 < value.len() && value.len() <= 20 && value.iter().all(|b| b.is_ascii_digit())
+    0 < value.len() && value.len() <= 20 && is_number(value)
 }
 
 // The number that digits write in decimal, or the greatest that fits.
@@ -69,8 +77,9 @@ fn first_refusal(text: &[u8]) -> Option<Line>
     let mut rest = unspaced(text);
     while !rest.is_empty() {
         let word = before(rest, b' ');
-        if let Some(line) = parameter_refusal(word) {
-            return Some(line);
+        match parameter_refusal(word) {
+            Some(line) => return Some(line),
+            None => {}
         }
         rest = unspaced(beyond(rest, word.len()));
     }

@@ -38,7 +38,8 @@ impl Part {
 
     /// Whether the last octet is CR.
     pub fn ends_cr(&self) -> bool
-        ensures { (text : List ℕ) → IsPart self.now text → result ≡ ends_cr text }
+        ensures value { result ≡ (self.now.last == 13) }
+        ensures text { (text : List ℕ) → IsPart self.now text → result ≡ ends_cr text }
     {
         self.last == b'\r'
     }

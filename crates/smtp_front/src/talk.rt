@@ -72,7 +72,7 @@ fn write<K: Sink>(sink: &mut K, bytes: &[u8]) -> Result<(), Halt>
 {
     match write_all_to(sink, bytes) {
         Ok(()) => Ok(()),
-        Err(_) => Err(Halt::SinkFault),
+        Err(Failed) => Err(Halt::SinkFault),
     }
 }
 
@@ -184,11 +184,13 @@ fn drain<I: Intake, K: Sink, C: Clock>(
         phase = reaction.phase;
         follow(dialog, &reaction.deed);
         let outcome = ask(intake, clock, reaction.deed);
-        if let Err(halt) = say(alloc, sink, outcome.reply) {
-            return Drained::Halted { halt };
+        match say(alloc, sink, outcome.reply) {
+            Ok(()) => {}
+            Err(halt) => return Drained::Halted { halt },
         }
-        if let Some(end) = outcome.end {
-            return Drained::Over { end };
+        match outcome.end {
+            Some(end) => return Drained::Over { end },
+            None => {}
         }
     }
 }
@@ -199,9 +201,9 @@ fn close<K: Sink>(sink: &mut K, line: Line, end: SessionEnd) -> SessionEnd
     ensures cause { end ≢ SessionEnd.SinkFault → result ≡ SessionEnd.SinkFault → Rose (K.faults sink.old) (K.faults sink.new) }
     ensures later { K.faults sink.old ≤ K.faults sink.new }
 {
-    match write(sink, line.text()) {
+    match write_all_to(sink, line.text()) {
         Ok(()) => end,
-        Err(_) => SessionEnd::SinkFault,
+        Err(Failed) => SessionEnd::SinkFault,
     }
 }
 
@@ -301,8 +303,9 @@ pub fn session<I: Intake, S: Source, K: Sink, C: Clock>(
     ensures sinks { K.faults sink.old ≤ K.faults sink.new }
     ensures disks { I.disk_faults intake.old ≤ I.disk_faults intake.new }
 {
-    if write(sink, Line::Greeting.text()).is_err() {
-        return SessionEnd::SinkFault;
+    match write_all_to(sink, Line::Greeting.text()) {
+        Ok(()) => {}
+        Err(Failed) => return SessionEnd::SinkFault,
     }
     match Dialog::new(alloc) {
         Ok(dialog) => converse(alloc, intake, source, sink, clock, dialog),

@@ -38,7 +38,12 @@ pub fn beyond(text: &[u8], count: usize) -> &[u8]
 fn place_of(text: &[u8], b: u8) -> usize
     ensures { result ≡ position_or_len (is_byte b) text.now }
 {
-    text.iter().position(|c| *c == b).unwrap_or(text.len())
+    for (i, c) in text.iter().enumerate() {
+        if *c == b {
+            return i;
+        }
+    }
+    text.len()
 }
 
 /// What stands before the first such octet.
