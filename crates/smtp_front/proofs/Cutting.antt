@@ -1,5 +1,5 @@
 -- Lines of a text in pieces, and contents in lines.
-use Rattle.std.proofs.Common.{◌≡◌, ◌≢◌, ◌<◌, ◌+◌, ◌-◌, ℕ, suc, Bool, true, false, cond, eqb, List, [], ◌∷◌, ◌++◌, length, take, drop, get_or, refl, ap, ◌∙◌, sym, subst, arith, rules, Option, Some, None}
+use Rattle.std.proofs.Common.{◌≡◌, ◌<◌, ◌+◌, ◌-◌, ℕ, suc, Bool, true, false, cond, eqb, List, [], ◌∷◌, ◌++◌, length, take, drop, get_or, refl, ap, ◌∙◌, sym, subst, arith, Some, None}
 use Rattle.std.proofs.Math.Bool.{and-false}
 use Rattle.std.specs.Prelude.{◌&&◌, not}
 use Rattle.std.specs.List.{flat_map, before_first, position_or_len}
@@ -8,7 +8,7 @@ use Rattle.std.proofs.lemmas.List.Folds.{length-prefix_len}
 use Rattle.std.proofs.lemmas.Bool.{eqb-true, false≢true}
 use Rattle.mail_names.specs.Lines.{Lines, lines_of, onto}
 use Rattle.smtp_front.specs.Commands.{is_byte}
-use Rattle.smtp_front.specs.Events.{Body, body_of, with_line, kept, is_dot}
+use Rattle.smtp_front.specs.Events.{body_of, with_line, kept, is_dot}
 use Rattle.smtp_front.specs.Holds.{NoLine, ends_cr, NoDot}
 
 is_nil : List (List ℕ) → Bool

@@ -1,12 +1,10 @@
 -- The turns of what is held, one after another.
-use Rattle.std.proofs.Common.{◌≡◌, ℕ, List, [], ◌∷◌, ◌++◌, refl, ap, ◌∙◌, sym, subst, arith, ◌+◌, length, Option, Some, None, Result, inl, inr}
+use Rattle.std.proofs.Common.{◌≡◌, ℕ, List, [], ◌∷◌, ◌++◌, refl, ap, ◌∙◌, sym, subst, arith, Option, Some, None, inr}
 use Rattle.std.proofs.lemmas.List.{append-nil}
 use Rattle.std.specs.Io.KnownBytes.{Appends}
-use Rattle.port_io.specs.Told.{AppendsPrefix, Gave}
+use Rattle.port_io.specs.Told.{AppendsPrefix}
 use Rattle.port_io.proofs.Pieces.{Consumes-nothing, Appends-twice}
 use Rattle.mail_names.specs.Lines.{lines_of}
-use Rattle.mail_plan.specs.declared.intake.Accepted.{Accepted}
-use Rattle.mail_plan.specs.declared.intake.IntakeFault.{IntakeFault}
 use Rattle.mail_plan.specs.declared.intake.IntakeStep.{IntakeStep}
 use Rattle.smtp_front.specs.declared.dialog.Event.{Event}
 use Rattle.smtp_front.specs.declared.dialog.Dialog.{Dialog}
@@ -15,11 +13,11 @@ use Rattle.smtp_front.specs.declared.react.Phase.TheVariants as phases
 use Rattle.smtp_front.specs.declared.react.Reaction.{Reaction}
 use Rattle.smtp_front.specs.declared.reply.Reply.{Reply}
 use Rattle.smtp_front.specs.declared.session_end.SessionEnd.{SessionEnd}
-use Rattle.smtp_front.specs.Events.{Held, Next, nothing, fed, next_of}
+use Rattle.smtp_front.specs.Events.{Held, nothing, fed, next_of}
 use Rattle.smtp_front.specs.Holds.{Holds}
 use Rattle.smtp_front.specs.Replies.{reply_text}
 use Rattle.smtp_front.specs.React.{react}
-use Rattle.smtp_front.specs.Turns.{Turn, Goes, GoesOn, Did, Steps, said, replied, reply_of, asks, ticks, behind, end_of}
+use Rattle.smtp_front.specs.Turns.{Turn, Did, said, behind}
 use Rattle.smtp_front.specs.Sessions.{Stays, Closes, Begins}
 use Rattle.smtp_front.specs.declared.talk.Halt.{Halt}
 use Rattle.smtp_front.specs.declared.talk.Halt.TheVariants as halts

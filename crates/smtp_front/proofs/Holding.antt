@@ -1,18 +1,16 @@
 -- What a dialog holds, from step to step.
-use Rattle.std.proofs.Common.{◌≡◌, ◌≢◌, ◌<◌, ◌≤◌, ◌+◌, ◌-◌, ℕ, Bool, true, false, cond, eqb, List, [], ◌∷◌, ◌++◌, length, take, drop, get_or, refl, ap, ◌∙◌, sym, subst, arith, rules, Option, Some, None}
+use Rattle.std.proofs.Common.{◌≡◌, ◌<◌, ◌≤◌, ◌+◌, ◌-◌, ℕ, Bool, true, false, cond, List, [], ◌∷◌, ◌++◌, length, take, drop, refl, ap, ◌∙◌, sym, subst, arith, Option, Some, None}
 use Rattle.std.proofs.lemmas.List.{append-nil, append_assoc, drop_all, drop_more, drop-append-le, length-append}
 use Rattle.std.proofs.lemmas.List.Concat.{flat_map-append}
-use Rattle.std.proofs.lemmas.Bool.{eqb-true, false≢true}
-use Rattle.std.specs.Prelude.{◌&&◌}
+use Rattle.std.proofs.lemmas.Bool.{false≢true}
 use Rattle.std.specs.Option.{is_some}
 use Rattle.std.specs.List.{flat_map}
 use Rattle.smtp_front.specs.declared.dialog.Event.{Event}
-use Rattle.smtp_front.specs.declared.dialog.Event.TheVariants as events
 use Rattle.smtp_front.specs.declared.part.Part.{Part}
 use Rattle.smtp_front.specs.declared.dialog.Dialog.{Dialog}
 use Rattle.mail_names.specs.Lines.{Lines, lines_of}
 use Rattle.smtp_front.specs.Events.{Held, Next, nothing, fed, next_of, next_line, next_content, command, content, Body, body_of, kept, unstuffed, is_dot, is_between, is_none}
-use Rattle.smtp_front.specs.Holds.{NoLine, ends_cr, IsPart, IsContent, NoDot, Holds, Answers, Took, kept_in}
+use Rattle.smtp_front.specs.Holds.{NoLine, ends_cr, IsPart, IsContent, NoDot, Holds, Answers, kept_in}
 use Rattle.smtp_front.proofs.Cutting.{no_line-is, text-ends, lines-append, then_text, body-none, body-dot, no_dot-add, left-whole}
 
 pub starts : (alloc_part : Part) → IsPart alloc_part [] → Holds (record { awaits = false; held = []; at = 0; part = alloc_part; content = []; over = false }) nothing

@@ -5,3 +5,4 @@ pub mod Holding
 pub mod Settling
 pub mod Turning
 pub mod Draining
+pub mod Ending

@@ -5,7 +5,7 @@ use Rattle.std.proofs.lemmas.Bool.{false≢true}
 use Rattle.std.specs.Option.{is_some}
 use Rattle.smtp_front.specs.declared.dialog.Event.{Event}
 use Rattle.mail_names.specs.Lines.{Lines, lines_of}
-use Rattle.smtp_front.specs.Events.{Held, Next, fed, next_of, next_line, next_content, Body, body_of, with_line, is_dot}
+use Rattle.smtp_front.specs.Events.{Held, fed, next_of, next_line, next_content, Body, body_of, with_line, is_dot}
 use Rattle.smtp_front.proofs.Cutting.{lines-append, then_text}
 
 pub cut-twice : (h : Held) (a b : List ℕ) → fed (fed h a) b ≡ fed h (a ++ b)

@@ -14,14 +14,12 @@ use Rattle.smtp_front.specs.declared.session_end.SessionEnd.TheVariants as ends
 use Rattle.smtp_front.specs.declared.dialog.Dialog.{Dialog}
 use Rattle.smtp_front.specs.declared.talk.Halt.{Halt}
 use Rattle.smtp_front.specs.declared.talk.Halt.TheVariants as halts
-use Rattle.smtp_front.specs.declared.talk.Outcome.{Outcome}
 use Rattle.smtp_front.specs.declared.talk.Drained.{Drained}
 use Rattle.smtp_front.specs.declared.talk.Drained.TheVariants as drained
-use Rattle.smtp_front.specs.Events.{Held, Next, nothing, fed, next_of}
+use Rattle.smtp_front.specs.Events.{Held, nothing, fed, next_of}
 use Rattle.smtp_front.specs.Holds.{Holds}
-use Rattle.smtp_front.specs.Replies.{reply_text}
-use Rattle.smtp_front.specs.Turns.{Steps, reply_of, replied, asks, ticks, end_of}
-use Rattle.smtp_front.specs.Sessions.{Stays, Closes, Begins, Halts, Breaks}
+use Rattle.smtp_front.specs.Turns.{Steps, reply_of, asks, ticks, end_of}
+use Rattle.smtp_front.specs.Sessions.{Stays, Closes, Halts, Breaks}
 
 -- A reply wasn't written: its text couldn't be made and nothing was taken, or a front of it was taken.
 abbrev pub Unsaid : Option (List ℕ) → Option (List ℕ) → List ℕ → Halt → Type 0

@@ -1,6 +1,6 @@
 -- The events of a session's text, which know nothing of the pieces that it comes in.
-use Rattle.std.specs.Prelude.{ℕ, ◌-◌, ◌==◌, Bool, false, true, if◌then◌else◌, nat_le, bytes_eq, List, [], ◌∷◌, ◌++◌, length, drop, slice_index, Option, Some, None}
-use Rattle.mail_names.specs.Lines.{Lines, lines_of}
+use Rattle.std.specs.Prelude.{ℕ, ◌==◌, Bool, false, true, if◌then◌else◌, nat_le, bytes_eq, List, [], ◌∷◌, ◌++◌, length, drop, slice_index, Option, Some, None}
+use Rattle.mail_names.specs.Lines.{lines_of}
 use Rattle.smtp_front.specs.declared.dialog.Event.{Event}
 use Rattle.smtp_front.specs.declared.dialog.Event.TheVariants as events
 

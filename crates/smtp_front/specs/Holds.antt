@@ -1,11 +1,11 @@
 -- What a dialog holds.
 use Rattle.std.specs.Prelude.{◌≡◌, ℕ, ◌≤◌, ◌<◌, ◌+◌, ◌-◌, ◌==◌, ◌&&◌, Bool, false, true, List, [], ◌∷◌, ◌++◌, length, slice_index, drop, Option, Some, None}
 use Rattle.std.specs.List.{flat_map}
-use Rattle.mail_names.specs.Lines.{Lines, lines_of}
+use Rattle.mail_names.specs.Lines.{lines_of}
 use Rattle.smtp_front.specs.declared.dialog.Event.{Event}
 use Rattle.smtp_front.specs.declared.part.Part.{Part}
 use Rattle.smtp_front.specs.declared.dialog.Dialog.{Dialog}
-use Rattle.smtp_front.specs.Events.{Held, Next, next_of, kept, is_dot}
+use Rattle.smtp_front.specs.Events.{Held, next_of, kept, is_dot}
 
 -- No CR LF stands in the text.
 abbrev pub NoLine : List ℕ → Type 0

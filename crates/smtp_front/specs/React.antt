@@ -14,7 +14,6 @@ use Rattle.smtp_front.specs.declared.reply.Reply.{Reply}
 use Rattle.smtp_front.specs.declared.reply.Reply.TheVariants as replies
 use Rattle.smtp_front.specs.declared.react.Phase.{Phase}
 use Rattle.smtp_front.specs.declared.react.Phase.TheVariants as phases
-use Rattle.smtp_front.specs.declared.react.Deed.{Deed}
 use Rattle.smtp_front.specs.declared.react.Deed.TheVariants as deeds
 use Rattle.smtp_front.specs.declared.react.Reaction.{Reaction}
 use Rattle.std.specs.Prelude.{codes}

@@ -6,11 +6,10 @@ use Rattle.port_io.specs.Told.{AppendsPrefix, Gave}
 use Rattle.mail_plan.specs.declared.intake.IntakeStep.{IntakeStep}
 use Rattle.smtp_front.specs.declared.react.Phase.{Phase}
 use Rattle.smtp_front.specs.declared.react.Phase.TheVariants as phases
-use Rattle.smtp_front.specs.declared.react.Reaction.{Reaction}
 use Rattle.smtp_front.specs.declared.reply.Line.TheVariants as lines
 use Rattle.smtp_front.specs.declared.session_end.SessionEnd.{SessionEnd}
 use Rattle.smtp_front.specs.declared.session_end.SessionEnd.TheVariants as ends
-use Rattle.smtp_front.specs.Events.{Held, Next, nothing, fed, next_of}
+use Rattle.smtp_front.specs.Events.{Held, nothing, fed, next_of}
 use Rattle.smtp_front.specs.Replies.{line_text}
 use Rattle.smtp_front.specs.React.{react}
 use Rattle.smtp_front.specs.Turns.{Turn, Goes, GoesOn, Did, Steps, replied, asks, ticks, end_of, end_at}

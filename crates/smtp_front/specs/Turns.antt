@@ -14,10 +14,9 @@ use Rattle.smtp_front.specs.declared.reply.Reply.TheVariants as replies
 use Rattle.smtp_front.specs.declared.react.Phase.{Phase}
 use Rattle.smtp_front.specs.declared.react.Deed.{Deed}
 use Rattle.smtp_front.specs.declared.react.Deed.TheVariants as deeds
-use Rattle.smtp_front.specs.declared.react.Reaction.{Reaction}
 use Rattle.smtp_front.specs.declared.session_end.SessionEnd.{SessionEnd}
 use Rattle.smtp_front.specs.declared.session_end.SessionEnd.TheVariants as ends
-use Rattle.smtp_front.specs.Events.{Held, Next, next_of, is_between}
+use Rattle.smtp_front.specs.Events.{Held, next_of, is_between}
 use Rattle.smtp_front.specs.Replies.{reply_text, answer_reply}
 use Rattle.smtp_front.specs.React.{react}
 

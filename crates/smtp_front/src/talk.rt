@@ -264,8 +264,9 @@ fn converse<I: Intake, S: Source, K: Sink, C: Clock>(
             Ok(count) => count,
             Err(Failed) => return SessionEnd::SourceFault,
         };
-        if dialog.feed(&wire[..count]).is_err() {
-            return close(sink, Line::NoMemory, SessionEnd::NoMemory);
+        match dialog.feed(&wire[..count]) {
+            Ok(()) => {}
+            Err(NoMemory) => return close(sink, Line::NoMemory, SessionEnd::NoMemory),
         }
         match drain(alloc, intake, sink, clock, &mut dialog, phase) {
             Drained::Open { phase: next } => phase = next,

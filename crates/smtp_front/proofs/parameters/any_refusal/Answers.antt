@@ -1,6 +1,6 @@
-use Rattle.std.proofs.Common.{◌≡◌, ◌∙◌, ap, sym, subst, arith, length, eqb, true, false, List, ℕ, ◌<◌, ◌≤◌}
+use Rattle.std.proofs.Common.{◌∙◌, ap, sym, subst, length, List, ℕ, ◌<◌, ◌≤◌}
 use Rattle.smtp_front.specs.Commands.{unspaced}
-use Rattle.smtp_front.specs.Parameters.{words_of, any_refusal}
+use Rattle.smtp_front.specs.Parameters.{any_refusal}
 use Rattle.smtp_front.proofs.Parting.{words_of-unspaced, Starts-unspaced, some-length, none-length, any-some, no-words}
 use Rattle.smtp_front.proofs.parameters.any_refusal.Goals as goal
 

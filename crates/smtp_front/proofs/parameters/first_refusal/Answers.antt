@@ -1,4 +1,4 @@
-use Rattle.std.proofs.Common.{◌≡◌, ◌∙◌, ◌<◌, ap, sym, subst, arith, length, drop, List, ℕ}
+use Rattle.std.proofs.Common.{◌∙◌, ap, sym, subst, arith, length, drop, List, ℕ}
 use Rattle.smtp_front.specs.Commands.{unspaced}
 use Rattle.smtp_front.specs.Parameters.{words_of, first_refusal}
 use Rattle.smtp_front.proofs.Parting.{Starts, words_of-unspaced, Starts-unspaced, some-length, refusal-here, refusal-later, shorter}

@@ -1,4 +1,4 @@
-use Rattle.std.proofs.Common.{◌≡◌, ap, ◌∙◌, sym, subst, inl, Option, Some, arith}
+use Rattle.std.proofs.Common.{sym, subst, inl, arith}
 use Rattle.smtp_front.specs.Events.{Held, next_of}
 use Rattle.smtp_front.specs.Holds.{Holds}
 use Rattle.smtp_front.proofs.Draining.{Stays-push, Closes-push, Begins-push, halted}

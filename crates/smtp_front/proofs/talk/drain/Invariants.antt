@@ -1,4 +1,4 @@
-use Rattle.std.proofs.Common.{◌≡◌, ◌≤◌, ℕ, List, Option}
+use Rattle.std.proofs.Common.{◌≤◌, ℕ, List, Option}
 use Rattle.smtp_front.specs.declared.react.Phase.{Phase}
 use Rattle.smtp_front.specs.Events.{Held}
 use Rattle.smtp_front.specs.Holds.{Holds, unread}

@@ -1,4 +1,4 @@
-use Rattle.std.proofs.Common.{◌≡◌, ◌<◌, ◌≤◌, length, take, refl, ap, ◌∙◌, sym, arith}
+use Rattle.std.proofs.Common.{◌≡◌, take, ap, ◌∙◌, sym, arith}
 use Rattle.smtp_front.specs.Commands.{trim}
 use Rattle.smtp_front.proofs.Trimming.{shorter, at_mark}
 use Rattle.smtp_front.proofs.texts.trimmed.Goals as goal

@@ -1,4 +1,4 @@
-use Rattle.std.proofs.Common.{◌≡◌, ◌+◌, List, ℕ, ◌∷◌, length, drop, get_or, ap, ◌∙◌, sym, eq-eqb}
+use Rattle.std.proofs.Common.{◌≡◌, ◌+◌, ◌∷◌, drop, ap, ◌∙◌, sym, eq-eqb}
 use Rattle.std.proofs.lemmas.List.{drop_more}
 use Rattle.smtp_front.proofs.Holding.{command-line, dot-line, content-line}
 use Rattle.smtp_front.proofs.dialog.Dialog.end_line.Goals as goal

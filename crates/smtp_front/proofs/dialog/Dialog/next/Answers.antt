@@ -1,4 +1,4 @@
-use Rattle.std.proofs.Common.{◌≡◌, ◌+◌, ◌<◌, ◌≤◌, List, ℕ, [], ◌∷◌, ◌++◌, length, drop, get_or, refl, ap, ◌∙◌, sym, subst, arith, rules, true, false}
+use Rattle.std.proofs.Common.{length, ap, subst, arith}
 use Rattle.smtp_front.specs.Holds.{Took}
 use Rattle.smtp_front.proofs.Holding.{waits, bounded}
 use Rattle.smtp_front.proofs.dialog.Dialog.next.Goals as goal
