@@ -10,6 +10,8 @@ mod react;
 mod reply;
 mod session_end;
 mod talk;
+#[cfg(test)]
+mod tests;
 mod texts;
 mod verb;
 
