@@ -1,0 +1,9 @@
+pub mod Events
+pub mod Holds
+pub mod Commands
+pub mod Parameters
+pub mod Replies
+pub mod React
+pub mod Turns
+pub mod Sessions
+pub mod Drains
