@@ -1,0 +1,4 @@
+pub mod Calendar
+pub mod Digits
+mod LowerKeys
+pub mod Numbers

@@ -1,3 +1,4 @@
+pub mod Dates
 pub mod Key
-pub mod Names
 pub mod Lines
+pub mod Names

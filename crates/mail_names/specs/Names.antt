@@ -1,6 +1,8 @@
 -- The text of an item's name.
-use Rattle.std.specs.Prelude.{ℕ, List, [], ◌∷◌, ◌++◌, decimal}
+use Rattle.std.specs.Prelude.{◌≡◌, ◌<◌, ◌^◌, ℕ, Bool, true, false, not, ◌==◌, List, [], ◌∷◌, ◌++◌, decimal}
+use Rattle.std.specs.Char.{is_ascii_digit}
 use Rattle.mail_names.specs.declared.name.ItemName.{ItemName}
+use Rattle.mail_names.specs.declared.name.ApprovalName.{ApprovalName}
 use Rattle.mail_names.specs.declared.name.Mark.{Mark}
 use Rattle.mail_names.specs.declared.name.Mark.TheVariants as marks
 
@@ -18,3 +20,49 @@ numbers_text submission release place = decimal submission ++ (45 ∷ (decimal r
 -- item-name = submission "-" release "-" place [ "-g" / "-d" / "-u" ]
 abbrev pub name_text : ItemName → List ℕ
 name_text name = numbers_text name.submission name.release name.place ++ mark_text name.mark
+
+-- its numbers fit their types
+pub record IsItemName (name : ItemName) : Type 0 where
+  pub submission : name.submission < 2 ^ 64
+  pub release : name.release < 2 ^ 32
+  pub place : name.place < 2 ^ 32
+
+-- approval-name = submission "-" release "-" gate
+abbrev pub approval_text : ApprovalName → List ℕ
+approval_text name = numbers_text name.submission name.release name.gate
+
+-- its numbers fit their types
+pub record IsApprovalName (name : ApprovalName) : Type 0 where
+  pub submission : name.submission < 2 ^ 64
+  pub release : name.release < 2 ^ 32
+  pub gate : name.gate < 2 ^ 32
+
+-- no leading zero: at least one digit, and 0 first only where it stands alone
+abbrev pub is_short : List ℕ → Bool
+is_short [] = false
+is_short (d ∷ []) = true
+is_short (d ∷ e ∷ ds) = not (d == 48)
+
+abbrev pub begins_with_digit : List ℕ → Bool
+begins_with_digit [] = false
+begins_with_digit (b ∷ bs) = is_ascii_digit b
+
+-- a number of at most 64 bits, and the rest behind its last digit
+pub record BeginsWithNumber (bytes : List ℕ) (number : ℕ) (rest : List ℕ) : Type 0 where
+  pub fits : number < 2 ^ 64
+  pub is : bytes ≡ decimal number ++ rest
+  pub ends : begins_with_digit rest ≡ false
+
+-- a number of at most 32 bits behind a -
+pub record BeginsWithDashAndNumber (bytes : List ℕ) (number : ℕ) (rest : List ℕ) : Type 0 where
+  pub fits : number < 2 ^ 32
+  pub is : bytes ≡ 45 ∷ (decimal number ++ rest)
+  pub ends : begins_with_digit rest ≡ false
+
+-- three numbers with - between them, and the rest behind the last digit
+pub record BeginsWithNumbers (bytes : List ℕ) (submission release place : ℕ) (rest : List ℕ) : Type 0 where
+  pub submission_fits : submission < 2 ^ 64
+  pub release_fits : release < 2 ^ 32
+  pub place_fits : place < 2 ^ 32
+  pub is : bytes ≡ numbers_text submission release place ++ rest
+  pub ends : begins_with_digit rest ≡ false

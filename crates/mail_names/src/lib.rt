@@ -2,11 +2,22 @@
 #![tactic(auto)]
 
 mod bytes;
+mod dates;
+mod decimal;
+mod gate;
 mod items;
 mod key;
+pub mod laws;
 mod name;
+mod steps;
 
 pub use bytes::{Bytes, NoMemory};
+pub use dates::{LAST_MOMENT, date_text};
+pub use gate::Gate;
 pub use items::Items;
 pub use key::{Key, NameFault, lowered};
-pub use name::{ItemName, Mark};
+pub use name::{ApprovalName, ItemName, Mark};
+pub use steps::Steps;
+
+#[cfg(test)]
+mod tests;

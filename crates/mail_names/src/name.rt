@@ -1,7 +1,11 @@
 // The names of items.
-ghost use Rattle.std.specs.Prelude.{◌≡◌, ◌++◌, IfOk, OnOk};
-ghost use Rattle.mail_names.specs.Names.{mark_text, numbers_text, name_text};
+ghost use Rattle.std.specs.Prelude.{◌≡◌, ◌≢◌, ◌++◌, IfOk, OnOk, IfSome, IfNone};
+ghost use Rattle.mail_names.specs.Names.{mark_text, numbers_text, name_text, approval_text, IsItemName, IsApprovalName};
+ghost use Rattle.mail_names.specs.declared.name.ApprovalName.{ApprovalName};
+ghost use Rattle.mail_names.specs.declared.name.ItemName.{ItemName};
+ghost use Rattle.mail_names.specs.declared.name.Mark.{Mark};
 
+use crate::decimal::{Numbers, read_numbers};
 use crate::{Bytes, NoMemory};
 use std::alloc::Global;
 
@@ -29,7 +33,31 @@ pub struct ItemName {
     pub mark: Mark,
 }
 
+/// The name of an approval: its submission, its release, and the place of its gate there.
+///
+/// Names are ordered by these three.
+#[derive(Clone, Copy, Debug, PartialEq, Eq, PartialOrd, Ord)]
+pub struct ApprovalName {
+    pub submission: u64,
+    pub release: u32,
+    pub gate: u32,
+}
+
 impl Mark {
+    // The mark that stands behind the numbers.
+    fn read(text: &[u8]) -> Option<Mark>
+        ensures some { IfSome result (λ mark. mark_text mark ≡ text.now) }
+        ensures none { IfNone result ((mark : Mark) → mark_text mark ≢ text.now) }
+    {
+        match text {
+            b"" => Some(Mark::Plain),
+            b"-g" => Some(Mark::Gate),
+            b"-d" => Some(Mark::Delay),
+            b"-u" => Some(Mark::Failure),
+            _ => None,
+        }
+    }
+
     // What stands behind the numbers.
     fn text(self) -> &'static [u8]
         ensures { result.now ≡ mark_text self }
@@ -59,5 +87,59 @@ impl ItemName {
         let mut text = numbers_text(alloc, self.submission, self.release, self.place)?;
         text.add(self.mark.text())?;
         Ok(text)
+    }
+
+    /// The name that this text is. It takes no memory.
+    ///
+    /// Numbers have no leading zeros and fit their types.
+    pub fn read(text: &[u8]) -> Option<ItemName>
+        ensures some { IfSome result (λ name. name_text name ≡ text.now) }
+        ensures none { IfNone result ((name : ItemName) → IsItemName name → name_text name ≢ text.now) }
+    {
+        let Numbers {
+            submission,
+            release,
+            place,
+            rest,
+        } = read_numbers(text)?;
+        let mark = Mark::read(rest)?;
+        Some(ItemName {
+            submission,
+            release,
+            place,
+            mark,
+        })
+    }
+}
+
+impl ApprovalName {
+    /// The name as text: `submission-release-gate` in decimal.
+    pub fn text(&self, alloc: Global) -> Result<Bytes, NoMemory>
+        ensures { IfOk result (λ text. text ≡ approval_text self.now) }
+    {
+        numbers_text(alloc, self.submission, self.release, self.gate)
+    }
+
+    /// The name that this text is. It takes no memory.
+    ///
+    /// Numbers have no leading zeros and fit their types.
+    pub fn read(text: &[u8]) -> Option<ApprovalName>
+        ensures some { IfSome result (λ name. approval_text name ≡ text.now) }
+        ensures none { IfNone result ((name : ApprovalName) → IsApprovalName name → approval_text name ≢ text.now) }
+    {
+        let Numbers {
+            submission,
+            release,
+            place,
+            rest,
+        } = read_numbers(text)?;
+        if !rest.is_empty() {
+            return None;
+        }
+        Some(ApprovalName {
+            submission,
+            release,
+            gate: place,
+        })
     }
 }

@@ -1,0 +1,15 @@
+// What holds of names and their texts.
+ghost use Rattle.std.specs.Prelude.{◌≡◌};
+ghost use Rattle.mail_names.specs.Names.{name_text, approval_text, IsItemName, IsApprovalName};
+ghost use Rattle.mail_names.specs.declared.name.ApprovalName.{ApprovalName};
+ghost use Rattle.mail_names.specs.declared.name.ItemName.{ItemName};
+
+/// A text is that of one name alone, so `ItemName::read` of a name's text gives that name.
+pub fn an_item_name_reads_back()
+    ensures { (m n : ItemName) → IsItemName m → IsItemName n → name_text m ≡ name_text n → m ≡ n }
+{}
+
+/// A text is that of one name alone, so `ApprovalName::read` of a name's text gives that name.
+pub fn an_approval_name_reads_back()
+    ensures { (m n : ApprovalName) → IsApprovalName m → IsApprovalName n → approval_text m ≡ approval_text n → m ≡ n }
+{}
