@@ -1,0 +1,5 @@
+pub mod Numbers
+mod Standing
+mod Forms
+mod Parts
+mod Made

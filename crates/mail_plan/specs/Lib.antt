@@ -1,3 +1,5 @@
 pub mod Submission
 pub mod EntryText
 pub mod Base
+pub mod Entries
+pub mod Reading

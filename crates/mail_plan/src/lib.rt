@@ -3,7 +3,10 @@
 
 mod base;
 mod entry;
+mod fields;
 mod intake;
+mod places;
+mod read;
 mod release;
 mod submission;
 mod text;

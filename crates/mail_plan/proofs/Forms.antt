@@ -1,0 +1,212 @@
+-- Each form determines its value, and is no proper prefix of another's.
+use Rattle.std.proofs.Common.{◌≡◌, ◌⊎◌, inl, inr, ℕ, zero, suc, ◌+◌, ◌<◌, ◌^◌, ◌≤◌, cond, ltb, List, [], ◌∷◌, ◌++◌, length, get_or, take, drop, Option, Some, None, Result, Ok, Err, refl, sym, ◌∙◌, ap, arith, append_assoc}
+use Rattle.std.specs.Prelude.{⊤}
+use Rattle.std.specs.List.{flat_map, AllByRecursion}
+use Rattle.std.proofs.lemmas.List.{take_at, drop_at, append-nil}
+use Rattle.std.proofs.lemmas.Bool.{cases_lt, lt-ltb, le-ltb}
+use Rattle.mail_names.specs.Key.{IsKey, key_of}
+use Rattle.mail_names.specs.declared.key.NameFault.{NameFault}
+use Rattle.mail_names.specs.declared.key.NameFault.TheVariants as faults
+use Rattle.mail_names.specs.declared.name.ItemName.{ItemName}
+use Rattle.mail_names.specs.declared.name.Mark.{Mark}
+use Rattle.mail_names.specs.declared.name.Mark.TheVariants as marks
+use Rattle.mail_plan.specs.EntryText.{le32, le64, form_bytes, form_key_option, form_all, form_mark, form_name, form_item, form_release, form_origin, form_submission, entry_text}
+use Rattle.mail_plan.specs.Entries.{IsU32, IsU64, IsBytes, IsKeyOption, IsListOf, IsName, IsItem, IsRelease, IsOrigin, IsSubmission, IsEntry}
+use Rattle.mail_plan.specs.Reading.{OneForm}
+use Rattle.mail_plan.specs.Submission.{Submitted}
+use Rattle.mail_plan.specs.declared.submission.Origin.{Origin}
+use Rattle.mail_plan.specs.declared.submission.Origin.TheVariants as origins
+use Rattle.mail_plan.specs.declared.release.Item.{Item}
+use Rattle.mail_plan.specs.declared.release.Release.{Release}
+use Rattle.mail_plan.specs.declared.entry.Entry.{Entry}
+use Rattle.mail_plan.specs.declared.entry.Entry.TheVariants as entries
+use Rattle.mail_plan.proofs.Numbers.{length-le32, length-le64, le32_same, le64_same}
+
+-- lists of one length that begin the same
+abbrev Split : List ℕ → List ℕ → List ℕ → List ℕ → Type 0
+Split a b more rest = (a ≡ b) × (more ≡ rest)
+
+split : (n : ℕ) (a b more rest : List ℕ) → length a ≡ n → length b ≡ n → a ++ more ≡ b ++ rest → Split a b more rest
+split n a b more rest here there is = (
+  sym (take_at a more n here) ∙ ap (λ (l : List ℕ). take n l) is ∙ take_at b rest n there,
+  sym (drop_at a more n here) ∙ ap (λ (l : List ℕ). drop n l) is ∙ drop_at b rest n there,
+)
+
+-- a part, and what is behind it
+parts : {A : Type 0} (Is : A → Type 0) (form : A → List ℕ) → OneForm Is form → (a b : A) (x y more rest : List ℕ) → Is a → Is b → (form a ++ x) ++ more ≡ (form b ++ y) ++ rest → (a ≡ b) × (x ++ more ≡ y ++ rest)
+parts Is form one a b x y more rest here there is =
+    one a b (x ++ more) (y ++ rest) here there (sym (append_assoc (form a) x more) ∙ is ∙ append_assoc (form b) y rest)
+
+pub one_le32 : OneForm IsU32 le32
+one_le32 a b more rest here there is =
+    let s = split 4 (le32 a) (le32 b) more rest (length-le32 a) (length-le32 b) is in
+    (le32_same a b here there s.0, s.1)
+
+pub one_le64 : OneForm IsU64 le64
+one_le64 a b more rest here there is =
+    let s = split 8 (le64 a) (le64 b) more rest (length-le64 a) (length-le64 b) is in
+    (le64_same a b here there s.0, s.1)
+
+pub one_bytes : OneForm IsBytes form_bytes
+one_bytes a b more rest here there is =
+    let p = parts IsU64 le64 one_le64 (length a) (length b) a b more rest here there is in
+    split (length b) a b more rest p.0 refl p.1
+
+pub key_short : (key : List ℕ) → IsKey key → length key < 2 ^ 64
+key_short key is =
+    elim (cases_lt 254 (length key)) [
+      | inl long ↦
+          let bad : key_of key ≡ Err faults.TooLong = rw (le-ltb (length key) 3 (omega arith), lt-ltb 254 (length key) long) refl in
+          let both : Err faults.TooLong ≡ Ok key = sym bad ∙ is in
+          absurd (cc both)
+      | inr short ↦ omega arith
+    ]
+
+pub one_key : OneForm IsKey form_bytes
+one_key a b more rest here there is = one_bytes a b more rest (key_short a here) (key_short b there) is
+
+pub one_key_option : OneForm IsKeyOption form_key_option
+one_key_option None None more rest here there is = (refl, ap (λ (l : List ℕ). drop 1 l) is)
+one_key_option None (Some b) more rest here there is = absurd (cc is)
+one_key_option (Some a) None more rest here there is = absurd (cc is)
+one_key_option (Some a) (Some b) more rest here there is =
+    let p = one_key a b more rest here there (ap (λ (l : List ℕ). drop 1 l) is) in
+    (ap (λ (k : List ℕ). Some k) p.0, p.1)
+
+pub one_origin : OneForm IsOrigin form_origin
+one_origin origins.Smtp origins.Smtp more rest here there is = (refl, ap (λ (l : List ℕ). drop 1 l) is)
+one_origin origins.Smtp (origins.Pickup b) more rest here there is = absurd (cc is)
+one_origin (origins.Pickup a) origins.Smtp more rest here there is = absurd (cc is)
+one_origin (origins.Pickup a) (origins.Pickup b) more rest here there is =
+    let p = one_bytes a b more rest here there (ap (λ (l : List ℕ). drop 1 l) is) in
+    (ap (λ (k : List ℕ). origins.Pickup k) p.0, p.1)
+
+mark_of : List ℕ → Mark
+mark_of [] = marks.Plain
+mark_of (zero ∷ bytes) = marks.Plain
+mark_of (suc zero ∷ bytes) = marks.Gate
+mark_of (suc (suc zero) ∷ bytes) = marks.Delay
+mark_of (suc (suc (suc n)) ∷ bytes) = marks.Failure
+
+mark_back : (m : Mark) (more : List ℕ) → mark_of (form_mark m ++ more) ≡ m
+unfolding mark_of
+mark_back marks.Plain more = refl
+mark_back marks.Gate more = refl
+mark_back marks.Delay more = refl
+mark_back marks.Failure more = refl
+
+mark_behind : (m : Mark) (more : List ℕ) → drop 1 (form_mark m ++ more) ≡ more
+mark_behind marks.Plain more = refl
+mark_behind marks.Gate more = refl
+mark_behind marks.Delay more = refl
+mark_behind marks.Failure more = refl
+
+abbrev pub IsMark : Mark → Type 0
+IsMark m = ⊤
+
+pub one_mark : OneForm IsMark form_mark
+one_mark a b more rest here there is = (
+  sym (mark_back a more) ∙ ap mark_of is ∙ mark_back b rest,
+  sym (mark_behind a more) ∙ ap (λ (l : List ℕ). drop 1 l) is ∙ mark_behind b rest,
+)
+
+same_name : (a b : ItemName) → a.submission ≡ b.submission → a.release ≡ b.release → a.place ≡ b.place → a.mark ≡ b.mark → a ≡ b
+same_name a b submission release place mark =
+    ap (λ (x : ℕ). record { submission = x; release = a.release; place = a.place; mark = a.mark }) submission
+    ∙ ap (λ (x : ℕ). record { submission = b.submission; release = x; place = a.place; mark = a.mark }) release
+    ∙ ap (λ (x : ℕ). record { submission = b.submission; release = b.release; place = x; mark = a.mark }) place
+    ∙ ap (λ (x : Mark). record { submission = b.submission; release = b.release; place = b.place; mark = x }) mark
+
+pub one_name : OneForm IsName form_name
+one_name a b more rest here there is =
+    let p = parts IsU64 le64 one_le64 a.submission b.submission _ _ more rest here.submission there.submission is in
+    let q = parts IsU32 le32 one_le32 a.release b.release _ _ more rest here.release there.release p.1 in
+    let r = parts IsU32 le32 one_le32 a.place b.place _ _ more rest here.place there.place q.1 in
+    let s = one_mark a.mark b.mark more rest tt tt r.1 in
+    (same_name a b p.0 q.0 r.0 s.0, s.1)
+
+same_item : (a b : Item) → a.name ≡ b.name → a.folder ≡ b.folder → a.text ≡ b.text → a ≡ b
+same_item a b name folder text =
+    ap (λ (x : ItemName). record { name = x; folder = a.folder; text = a.text }) name
+    ∙ ap (λ (x : List ℕ). record { name = b.name; folder = x; text = a.text }) folder
+    ∙ ap (λ (x : ℕ). record { name = b.name; folder = b.folder; text = x }) text
+
+pub one_item : OneForm IsItem form_item
+one_item a b more rest here there is =
+    let p = parts IsName form_name one_name a.name b.name _ _ more rest here.name there.name is in
+    let q = parts IsKey form_bytes one_key a.folder b.folder _ _ more rest here.folder there.folder p.1 in
+    let r = one_le32 a.text b.text more rest here.text there.text (ap (λ (l : List ℕ). drop 2 l) q.1) in
+    (same_item a b p.0 q.0 r.0, r.1)
+
+module _ {A : Type 0} (Is : A → Type 0) (form : A → List ℕ) (one : OneForm Is form) where
+  one_row : (xs ys : List A) (more rest : List ℕ) → length xs ≡ length ys → AllByRecursion Is xs → AllByRecursion Is ys → flat_map form xs ++ more ≡ flat_map form ys ++ rest → (xs ≡ ys) × (more ≡ rest)
+  one_row [] [] more rest long here there is = (refl, is)
+  one_row [] (b ∷ ys) more rest long here there is = absurd (omega (arith, long))
+  one_row (a ∷ xs) [] more rest long here there is = absurd (omega (arith, long))
+  one_row (a ∷ xs) (b ∷ ys) more rest long here there is =
+      let p = parts Is form one a b (flat_map form xs) (flat_map form ys) more rest here.0 there.0 is in
+      let q = one_row xs ys more rest (omega (arith, long)) here.1 there.1 p.1 in
+      (ap (λ (x : A). x ∷ xs) p.0 ∙ ap (λ (ws : List A). b ∷ ws) q.0, q.1)
+
+  pub one_list : OneForm (IsListOf Is) (form_all form)
+  one_list xs ys more rest here there is =
+      let p = parts IsU32 le32 one_le32 (length xs) (length ys) _ _ more rest here.0 there.0 is in
+      one_row xs ys more rest p.0 here.1 there.1 p.1
+
+zeros : length (le32 0 ++ le32 0) ≡ 8
+unfolding le32
+zeros = refl
+
+pub one_release : OneForm IsRelease form_release
+one_release a b more rest here there is =
+    let p = parts (IsListOf IsBytes) (form_all form_bytes) (one_list IsBytes form_bytes one_bytes) a.texts b.texts _ _ more rest here.texts there.texts is in
+    let q = parts (IsListOf IsItem) (form_all form_item) (one_list IsItem form_item one_item) a.items b.items _ _ more rest here.items there.items p.1 in
+    let r = split 8 (le32 0 ++ le32 0) (le32 0 ++ le32 0) more rest zeros zeros q.1 in
+    (ap (λ (x : List (List ℕ)). record { texts = x; items = a.items }) p.0 ∙ ap (λ (x : List Item). record { texts = b.texts; items = x }) q.0, r.1)
+
+same_submission : (a b : Submitted) → a.origin ≡ b.origin → a.reverse ≡ b.reverse → a.recipients ≡ b.recipients → a.bytes ≡ b.bytes → a ≡ b
+same_submission a b origin reverse recipients bytes =
+    ap (λ (x : Origin). record { origin = x; reverse = a.reverse; recipients = a.recipients; bytes = a.bytes }) origin
+    ∙ ap (λ (x : Option (List ℕ)). record { origin = b.origin; reverse = x; recipients = a.recipients; bytes = a.bytes }) reverse
+    ∙ ap (λ (x : List (List ℕ)). record { origin = b.origin; reverse = b.reverse; recipients = x; bytes = a.bytes }) recipients
+    ∙ ap (λ (x : List ℕ). record { origin = b.origin; reverse = b.reverse; recipients = b.recipients; bytes = x }) bytes
+
+pub one_submission : OneForm IsSubmission form_submission
+one_submission a b more rest here there is =
+    let p = parts IsOrigin form_origin one_origin a.origin b.origin _ _ more rest here.origin there.origin is in
+    let q = parts IsKeyOption form_key_option one_key_option a.reverse b.reverse _ _ more rest here.reverse there.reverse p.1 in
+    let r = parts (IsListOf IsKey) (form_all form_bytes) (one_list IsKey form_bytes one_key) a.recipients b.recipients _ _ more rest here.recipients there.recipients q.1 in
+    let s = one_bytes a.bytes b.bytes more rest here.bytes there.bytes r.1 in
+    (same_submission a b p.0 q.0 r.0 s.0, s.1)
+
+tail : (m n : ℕ) (a b : List ℕ) → m ∷ a ≡ n ∷ b → a ≡ b
+tail m n a b is = ap (λ (l : List ℕ). drop 1 l) is
+
+pub one_entry : OneForm IsEntry entry_text
+one_entry (entries.Accepted m s) (entries.Accepted n t) more rest here there is =
+    let p = parts IsU64 le64 one_le64 m n _ _ more rest here.0 there.0 (tail _ _ _ _ is) in
+    let q = one_submission s t more rest here.1 there.1 p.1 in
+    (ap (λ (x : ℕ). entries.Accepted x s) p.0 ∙ ap (λ (x : Submitted). entries.Accepted n x) q.0, q.1)
+one_entry (entries.Categorised m i plan) (entries.Categorised n j other) more rest here there is =
+    let p = parts IsU64 le64 one_le64 m n _ _ more rest here.0 there.0 (tail _ _ _ _ is) in
+    let q = parts IsU32 le32 one_le32 i j _ _ more rest here.1 there.1 p.1 in
+    let r = one_release plan other more rest here.2 there.2 q.1 in
+    (ap (λ (x : ℕ). entries.Categorised x i plan) p.0 ∙ ap (λ (x : ℕ). entries.Categorised n x plan) q.0 ∙ ap (λ (x : Release). entries.Categorised n j x) r.0, r.1)
+one_entry (entries.Moment m) (entries.Moment n) more rest here there is =
+    let p = one_le64 m n more rest here there (tail _ _ _ _ is) in
+    (ap (λ (x : ℕ). entries.Moment x) p.0, p.1)
+one_entry (entries.Delivered a) (entries.Delivered b) more rest here there is =
+    let p = one_name a b more rest here there (tail _ _ _ _ is) in
+    (ap (λ (x : ItemName). entries.Delivered x) p.0, p.1)
+one_entry (entries.Accepted m s) (entries.Categorised n j other) more rest here there is = absurd (cc is)
+one_entry (entries.Accepted m s) (entries.Moment n) more rest here there is = absurd (cc is)
+one_entry (entries.Accepted m s) (entries.Delivered b) more rest here there is = absurd (cc is)
+one_entry (entries.Categorised m i plan) (entries.Accepted n t) more rest here there is = absurd (cc is)
+one_entry (entries.Categorised m i plan) (entries.Moment n) more rest here there is = absurd (cc is)
+one_entry (entries.Categorised m i plan) (entries.Delivered b) more rest here there is = absurd (cc is)
+one_entry (entries.Moment m) (entries.Accepted n t) more rest here there is = absurd (cc is)
+one_entry (entries.Moment m) (entries.Categorised n j other) more rest here there is = absurd (cc is)
+one_entry (entries.Moment m) (entries.Delivered b) more rest here there is = absurd (cc is)
+one_entry (entries.Delivered a) (entries.Accepted n t) more rest here there is = absurd (cc is)
+one_entry (entries.Delivered a) (entries.Categorised n j other) more rest here there is = absurd (cc is)
+one_entry (entries.Delivered a) (entries.Moment n) more rest here there is = absurd (cc is)

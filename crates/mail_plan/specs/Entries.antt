@@ -1,0 +1,61 @@
+-- Which entries there are, of all that the types of their fields may hold.
+use Rattle.std.specs.Prelude.{◌≡◌, ⊤, ℕ, ◌^◌, ◌<◌, List, length, Option, IfSome, Ok}
+use Rattle.std.specs.List.{AllByRecursion}
+use Rattle.mail_names.specs.Key.{IsKey}
+use Rattle.mail_names.specs.declared.name.ItemName.{ItemName}
+use Rattle.mail_plan.specs.Submission.{Submitted, submission_of}
+use Rattle.mail_plan.specs.declared.submission.Origin.{Origin}
+use Rattle.mail_plan.specs.declared.submission.Origin.TheVariants as origins
+use Rattle.mail_plan.specs.declared.release.Item.{Item}
+use Rattle.mail_plan.specs.declared.release.Release.{Release}
+use Rattle.mail_plan.specs.declared.entry.Entry.{Entry}
+use Rattle.mail_plan.specs.declared.entry.Entry.TheVariants as entries
+
+abbrev pub IsU32 : ℕ → Type 0
+IsU32 n = n < 2 ^ 32
+
+abbrev pub IsU64 : ℕ → Type 0
+IsU64 n = n < 2 ^ 64
+
+-- bytes whose count is a u64
+abbrev pub IsBytes : List ℕ → Type 0
+IsBytes bytes = IsU64 (length bytes)
+
+abbrev pub IsKeyOption : Option (List ℕ) → Type 0
+IsKeyOption key = IfSome key IsKey
+
+-- a list of such values, whose count is a u32
+abbrev pub IsListOf : {X : Type 0} → (X → Type 0) → List X → Type 0
+IsListOf Is values = IsU32 (length values) × AllByRecursion Is values
+
+pub record IsName (name : ItemName) : Type 0 where
+  pub submission : IsU64 name.submission
+  pub release : IsU32 name.release
+  pub place : IsU32 name.place
+
+pub record IsItem (item : Item) : Type 0 where
+  pub name : IsName item.name
+  pub folder : IsKey item.folder
+  pub text : IsU32 item.text
+
+pub record IsRelease (release : Release) : Type 0 where
+  pub texts : IsListOf IsBytes release.texts
+  pub items : IsListOf IsItem release.items
+
+abbrev pub IsOrigin : Origin → Type 0
+IsOrigin origins.Smtp = ⊤
+IsOrigin (origins.Pickup mark) = IsBytes mark
+
+-- what `Submission::new` makes of its parts
+pub record IsSubmission (s : Submitted) : Type 0 where
+  pub origin : IsOrigin s.origin
+  pub reverse : IsKeyOption s.reverse
+  pub recipients : IsListOf IsKey s.recipients
+  pub bytes : IsBytes s.bytes
+  pub made : submission_of s.origin s.reverse s.recipients s.bytes ≡ Ok s
+
+abbrev pub IsEntry : Entry → Type 0
+IsEntry (entries.Accepted moment submission) = IsU64 moment × IsSubmission submission
+IsEntry (entries.Categorised number release plan) = IsU64 number × IsU32 release × IsRelease plan
+IsEntry (entries.Moment moment) = IsU64 moment
+IsEntry (entries.Delivered name) = IsName name

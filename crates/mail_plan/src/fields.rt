@@ -1,0 +1,235 @@
+// Reading the fields of entries.
+ghost use Rattle.std.specs.Prelude.{◌≡◌, ⊤, ℕ, ◌≤◌, List, length, flat_map, IfOk, IsErrOf, Ok};
+ghost use Rattle.std.specs.List.{AllByRecursion};
+ghost use Rattle.mail_names.specs.Key.{IsKey};
+ghost use Rattle.mail_plan.specs.EntryText.{form_bytes, form_key_option, form_all, form_mark, form_name, form_item, form_release, form_origin, form_submission};
+ghost use Rattle.mail_plan.specs.Entries.{IsBytes, IsKeyOption, IsListOf, IsName, IsItem, IsRelease, IsOrigin, IsSubmission};
+ghost use Rattle.mail_plan.specs.Reading.{Reads, OneForm};
+ghost use Rattle.mail_plan.specs.Submission.{Submitted, submission_of};
+
+use crate::places::{Miss, byte_at, expect_at, slice_at, u32_at, u64_at};
+use crate::{Item, Origin, Release, Submission, SubmissionFault};
+use mail_names::{Bytes, ItemName, Items, Key, Mark, NameFault};
+use std::alloc::Global;
+
+/// A value with a form, of which lists are made.
+pub trait Field: Drop {
+    /// Which values have a form.
+    ghost is: { Self → Type 0 };
+
+    ghost form: { Self → List ℕ };
+
+    /// The value that stands at a place, and the place behind it.
+    fn read_at(alloc: Global, bytes: &[u8], at: usize) -> Result<(Self, usize), Miss>
+        ensures { Reads is form bytes.now at result };
+}
+
+pub fn bytes_at(alloc: Global, bytes: &[u8], at: usize) -> Result<(Bytes, usize), Miss>
+    ensures { Reads IsBytes form_bytes bytes.now at result }
+{
+    let (text, end) = slice_at(bytes, at)?;
+    Ok((Bytes::of(alloc, text)?, end))
+}
+
+// The key that these bytes are.
+fn read_key(alloc: Global, text: &[u8]) -> Result<Key, Miss>
+    ensures key { IfOk result (λ key. (key ≡ text.now) × IsKey key) }
+    ensures none { IsErrOf result Miss.NoForm → IsKey text.now → ⊥ }
+{
+    match Key::read(alloc, text) {
+        Ok(key) => {
+            if key.bytes() == text {
+                Ok(key)
+            } else {
+                Err(Miss::NoForm)
+            }
+        }
+        Err(NameFault::NoMemory) => Err(Miss::NoMemory),
+        Err(_) => Err(Miss::NoForm),
+    }
+}
+
+pub fn key_at(alloc: Global, bytes: &[u8], at: usize) -> Result<(Key, usize), Miss>
+    ensures { Reads IsKey form_bytes bytes.now at result }
+{
+    let (text, end) = slice_at(bytes, at)?;
+    let key = read_key(alloc, text)?;
+    Ok((key, end))
+}
+
+pub fn key_option_at(alloc: Global, bytes: &[u8], at: usize) -> Result<(Option<Key>, usize), Miss>
+    ensures { Reads IsKeyOption form_key_option bytes.now at result }
+{
+    let (tag, start) = byte_at(bytes, at)?;
+    match tag {
+        0 => Ok((None, start)),
+        1 => {
+            let (key, end) = key_at(alloc, bytes, start)?;
+            Ok((Some(key), end))
+        }
+        _ => Err(Miss::NoForm),
+    }
+}
+
+pub fn origin_at(alloc: Global, bytes: &[u8], at: usize) -> Result<(Origin, usize), Miss>
+    ensures { Reads IsOrigin form_origin bytes.now at result }
+{
+    let (tag, start) = byte_at(bytes, at)?;
+    match tag {
+        0 => Ok((Origin::Smtp, start)),
+        1 => {
+            let (mark, end) = bytes_at(alloc, bytes, start)?;
+            Ok((Origin::Pickup { mark }, end))
+        }
+        _ => Err(Miss::NoForm),
+    }
+}
+
+fn mark_at(bytes: &[u8], at: usize) -> Result<(Mark, usize), Miss>
+    ensures { Reads (λ m. ⊤) form_mark bytes.now at result }
+{
+    let (number, end) = byte_at(bytes, at)?;
+    match number {
+        0 => Ok((Mark::Plain, end)),
+        1 => Ok((Mark::Gate, end)),
+        2 => Ok((Mark::Delay, end)),
+        3 => Ok((Mark::Failure, end)),
+        _ => Err(Miss::NoForm),
+    }
+}
+
+pub fn name_at(bytes: &[u8], at: usize) -> Result<(ItemName, usize), Miss>
+    ensures { Reads IsName form_name bytes.now at result }
+{
+    let (submission, at_release) = u64_at(bytes, at)?;
+    let (release, at_place) = u32_at(bytes, at_release)?;
+    let (place, at_mark) = u32_at(bytes, at_place)?;
+    let (mark, end) = mark_at(bytes, at_mark)?;
+    let name = ItemName {
+        submission,
+        release,
+        place,
+        mark,
+    };
+    Ok((name, end))
+}
+
+// An item that is a version and was sent directly.
+fn item_at(alloc: Global, bytes: &[u8], at: usize) -> Result<(Item, usize), Miss>
+    ensures { Reads IsItem form_item bytes.now at result }
+{
+    let (name, at_folder) = name_at(bytes, at)?;
+    let (folder, at_kind) = key_at(alloc, bytes, at_folder)?;
+    let at_text = expect_at(bytes, at_kind, &[0, 0])?;
+    let (text, end) = u32_at(bytes, at_text)?;
+    Ok((Item { name, folder, text }, end))
+}
+
+impl Field for Bytes {
+    ghost use Rattle.mail_plan.specs.EntryText.{form_bytes};
+    ghost use Rattle.mail_plan.specs.Entries.{IsBytes};
+
+    ghost is = { IsBytes };
+
+    ghost form = { form_bytes };
+
+    fn read_at(alloc: Global, bytes: &[u8], at: usize) -> Result<(Bytes, usize), Miss> {
+        bytes_at(alloc, bytes, at)
+    }
+}
+
+impl Field for Key {
+    ghost use Rattle.mail_names.specs.Key.{IsKey};
+    ghost use Rattle.mail_plan.specs.EntryText.{form_bytes};
+
+    ghost is = { IsKey };
+
+    ghost form = { form_bytes };
+
+    fn read_at(alloc: Global, bytes: &[u8], at: usize) -> Result<(Key, usize), Miss> {
+        key_at(alloc, bytes, at)
+    }
+}
+
+impl Field for Item {
+    ghost use Rattle.mail_plan.specs.EntryText.{form_item};
+    ghost use Rattle.mail_plan.specs.Entries.{IsItem};
+
+    ghost is = { IsItem };
+
+    ghost form = { form_item };
+
+    fn read_at(alloc: Global, bytes: &[u8], at: usize) -> Result<(Item, usize), Miss> {
+        item_at(alloc, bytes, at)
+    }
+}
+
+// So many values, one behind another.
+fn row_at<F: Field>(
+    alloc: Global,
+    count: u32,
+    bytes: &[u8],
+    start: usize,
+) -> Result<(Items<F>, usize), Miss>
+    requires one_form { OneForm F.is F.form }
+    requires within { start ≤ length bytes.now }
+    ensures { Reads (λ values. (length values ≡ count) × AllByRecursion F.is values) (flat_map F.form) bytes.now start result }
+{
+    let mut values = Items::new(alloc);
+    let mut at = start;
+    for _ in 0..count {
+        let (value, end) = F::read_at(alloc, bytes, at)?;
+        values.push(value)?;
+        at = end;
+    }
+    Ok((values, at))
+}
+
+// Values behind their count.
+pub fn list_at<F: Field>(alloc: Global, bytes: &[u8], at: usize) -> Result<(Items<F>, usize), Miss>
+    requires { OneForm F.is F.form }
+    ensures { Reads (IsListOf F.is) (form_all F.form) bytes.now at result }
+{
+    let (count, start) = u32_at(bytes, at)?;
+    let (values, end) = row_at(alloc, count, bytes, start)?;
+    Ok((values, end))
+}
+
+// A release with no holds and no ends.
+pub fn release_at(alloc: Global, bytes: &[u8], at: usize) -> Result<(Release, usize), Miss>
+    ensures { Reads IsRelease form_release bytes.now at result }
+{
+    let (texts, at_items) = list_at(alloc, bytes, at)?;
+    let (items, at_holds) = list_at(alloc, bytes, at_items)?;
+    let end = expect_at(bytes, at_holds, &[0; 8])?;
+    Ok((Release { texts, items }, end))
+}
+
+// The submission of these parts.
+fn make_submission(
+    alloc: Global,
+    origin: Origin,
+    reverse: Option<Key>,
+    recipients: Items<Key>,
+    bytes: Bytes,
+) -> Result<Submission, Miss>
+    ensures some { IfOk result (λ s. submission_of origin reverse recipients bytes ≡ Ok s) }
+    ensures none { IsErrOf result Miss.NoForm → (s : Submitted) → submission_of origin reverse recipients bytes ≡ Ok s → ⊥ }
+{
+    match Submission::new(alloc, origin, reverse, recipients, bytes) {
+        Ok(submission) => Ok(submission),
+        Err(SubmissionFault::NoMemory) => Err(Miss::NoMemory),
+        Err(_) => Err(Miss::NoForm),
+    }
+}
+
+pub fn submission_at(alloc: Global, bytes: &[u8], at: usize) -> Result<(Submission, usize), Miss>
+    ensures { Reads IsSubmission form_submission bytes.now at result }
+{
+    let (origin, at_reverse) = origin_at(alloc, bytes, at)?;
+    let (reverse, at_recipients) = key_option_at(alloc, bytes, at_reverse)?;
+    let (recipients, at_bytes) = list_at(alloc, bytes, at_recipients)?;
+    let (message, end) = bytes_at(alloc, bytes, at_bytes)?;
+    let submission = make_submission(alloc, origin, reverse, recipients, message)?;
+    Ok((submission, end))
+}
