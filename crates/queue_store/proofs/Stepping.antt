@@ -20,6 +20,7 @@ use Rattle.hub_core.proofs.Prescribed.{prescribed}
 use Rattle.hub_core.proofs.Sending.{accepted_at, uncategorised_waits, found_named}
 use Rattle.queue_store.specs.Stands.{Stands, IsShelved, stored_of}
 use Rattle.queue_store.specs.Ready.{Kept, IsReady, Follows}
+use Rattle.std.proofs.lemmas.Bool.Decides.{nat_tests}
 use Rattle.queue_store.proofs.Growing.{stands-put-by}
 use Rattle.std.proofs.Common.{Result}
 
@@ -88,3 +89,11 @@ ready-put result s s' hub h item ready among stays puts = record {
   log = open_put (PutBy result (stored_of item)) s s' hub.log.place h puts ready.log;
   stands = stands-put-by result s.image s'.image h item ready.stands among puts.image.file puts.image.shelf;
 }
+
+moment_lawful : (s : Standing) (moment : ℕ) → s.moment ≤ moment → moment ≤ 253402300799 → is_lawful s (entries.Moment moment) ≡ true
+moment_lawful s moment later last = grind (arith, nat_tests)
+
+-- a turn's moment
+pub moment_follows : (s : State) (hub : Kept) (h : List Entry) (moment : ℕ) → IsReady s hub h → hub.state.moment ≤ moment → moment ≤ 253402300799 → Follows h (entries.Moment moment) s.image.shelf
+moment_follows s hub h moment ready later last =
+    ((moment_lawful (standing h) moment (subst (λ (st : Standing). st.moment ≤ moment) ready.state later) last, tt), tt)

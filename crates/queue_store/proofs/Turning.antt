@@ -9,7 +9,11 @@ use Rattle.port_io.specs.Causes.{Rose, RoseBy}
 use Rattle.plant_dev.specs.Disk.{State}
 use Rattle.hub_core.specs.Standing.{Standing, start, standing, state_after}
 use Rattle.queue_store.specs.Ready.{Kept, IsReady}
-use Rattle.queue_store.specs.Calls.{after_entries, entries_at, entries_all, entries_try, entries_tries, misses}
+use Rattle.mail_plan.specs.declared.entry.Entry.TheVariants as entries
+use Rattle.std.proofs.lemmas.Bool.Decides.{nat_tests}
+use Rattle.std.specs.Prelude.{nat_lt}
+use Rattle.hub_core.specs.Standing.{now_of}
+use Rattle.queue_store.specs.Calls.{after_entries, entries_at, entries_all, entries_try, entries_tries, entries_turn, names_waiting, moment_entry, misses}
 
 -- the state goes on by what was added
 pub state-goes : (s s' : State) (hub hub' : Kept) (h es : List Entry) → IsReady s hub h → IsReady s' hub' (h ++ es) → hub'.state ≡ after_entries hub.state es
@@ -66,3 +70,16 @@ misses-more puts true before mid now so_far later rose =
     let more : misses (puts ++ true ∷ []) ≡ misses puts + 0 = fold-append (λ a x. a + cond (not x) 1 0) 0 puts (true ∷ []) in omega (arith, more, so_far, later)
 misses-more puts false before mid now so_far later rose =
     let more : misses (puts ++ false ∷ []) ≡ misses puts + 1 = fold-append (λ a x. a + cond (not x) 1 0) 0 puts (false ∷ []) in omega (arith, more, so_far, rose refl)
+
+some_wait : (n : ℕ) → 0 < n → nat_lt 0 n ≡ true
+some_wait n some = grind (arith, nat_tests)
+
+-- a turn's first entry, and then its tries
+pub turn-entries : (s mid : Standing) (clock moment : ℕ) (names : List ItemName) (puts : List Bool) → 0 < length s.waiting → moment ≡ now_of s clock → names ≡ names_waiting s →
+    mid ≡ after_entries s (entries.Moment moment ∷ []) → (entries.Moment moment ∷ []) ++ entries_tries mid names puts ≡ entries_turn s clock puts
+turn-entries s mid clock moment names puts some at named state =
+    let all = moment_entry s clock ∷ entries_tries (state_after s (moment_entry s clock)) (names_waiting s) puts in
+    ap (λ st. entries.Moment moment ∷ entries_tries st names puts) state
+    ∙ ap (λ m. entries.Moment m ∷ entries_tries (state_after s (entries.Moment m)) names puts) at
+    ∙ ap (λ ns. moment_entry s clock ∷ entries_tries (state_after s (moment_entry s clock)) ns puts) named
+    ∙ sym (ap (λ t. cond t all []) (some_wait (length s.waiting) some))

@@ -31,7 +31,7 @@ Submits s hub submission clock (Err (faults.NotALog at)) s' hub' = Keeps s hub s
 Submits s hub submission clock (Err (faults.DeskFull calls)) s' hub' = ⊥
 
 abbrev pub Counts : State → Kept → Result ℕ IntakeFault → State → Kept → Type 0
-Counts s hub answer s' hub' = Unit {0}
+Counts s hub answer s' hub' = Keeps s hub s' hub'
 
 -- what a step does to a plant and a hub
 abbrev pub DoesStep : State → Kept → IntakeStep → State → Kept → Type 0

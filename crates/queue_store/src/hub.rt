@@ -161,4 +161,15 @@ impl Hub {
             None => self.accept(alloc, plant, submission, clock),
         }
     }
+
+    /// The number that the next new submission gets.
+    pub fn next_number<P: Plant>(&mut self, alloc: Global, plant: &mut P) -> Result<u64, HubFault>
+        ensures number { self.old.broken ≡ false → IfOk result (λ number. number ≡ length self.old.state.live + 1) }
+        ensures kept { (h : List Entry) → IsReady (P.state plant.old) self.old h → IsReady (P.state plant.new) self.new h }
+        ensures stays { Stays (P.state plant.old) (P.state plant.new) }
+        ensures cause { IsErrOf result HubFault.DiskFault → Rose (P.state plant.old).disk_faults (P.state plant.new).disk_faults }
+    {
+        self.mend(alloc, plant)?;
+        Ok(self.state.next_number())
+    }
 }

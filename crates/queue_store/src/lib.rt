@@ -3,6 +3,8 @@
 
 mod fault;
 mod hub;
+mod office;
 
 pub use fault::HubFault;
 pub use hub::Hub;
+pub use office::LocalOffice;

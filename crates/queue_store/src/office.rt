@@ -1,0 +1,51 @@
+// A hub and its plant, lent to a session.
+ghost use Rattle.std.specs.Prelude.{◌≡◌};
+ghost use Rattle.queue_store.specs.Faults.{refused};
+
+use crate::{Hub, HubFault};
+use mail_plan::{Accepted, Intake, IntakeFault, Submission};
+use plant_dev::Plant;
+use std::alloc::Global;
+
+/// A hub and its plant as an intake.
+#[derive(Drop)]
+pub struct LocalOffice<'a, P: Plant> {
+    pub alloc: Global,
+    pub hub: &'a mut Hub,
+    pub plant: &'a mut P,
+}
+
+fn refused(fault: HubFault) -> IntakeFault
+    ensures { result ≡ refused fault }
+{
+    match fault {
+        HubFault::DiskFault => IntakeFault::DiskFault,
+        HubFault::NoMemory => IntakeFault::NoMemory,
+        HubFault::LogFull { length } => IntakeFault::LogFull { length },
+        HubFault::NotALog { at } => IntakeFault::NotALog { at },
+    }
+}
+
+impl<P: Plant> Intake for LocalOffice<'_, P> {
+    ghost use Rattle.queue_store.specs.Office.{Does};
+    ghost use Rattle.std.specs.Prelude.{◌≡◌};
+
+    ghost disk_faults = { λ o. (P.state o.plant.now).disk_faults };
+
+    ghost gives = { λ a step b. (b.hub.ghost_name ≡ a.hub.ghost_name) × (b.plant.ghost_name ≡ a.plant.ghost_name)
+        × Does (P.state a.plant.now) a.hub.now step (P.state b.plant.now) b.hub.now };
+
+    fn submit(&mut self, submission: Submission, clock: u64) -> Result<Accepted, IntakeFault> {
+        match self.hub.submit(self.alloc, self.plant, submission, clock) {
+            Ok(accepted) => Ok(accepted),
+            Err(fault) => Err(refused(fault)),
+        }
+    }
+
+    fn next_number(&mut self) -> Result<u64, IntakeFault> {
+        match self.hub.next_number(self.alloc, self.plant) {
+            Ok(number) => Ok(number),
+            Err(fault) => Err(refused(fault)),
+        }
+    }
+}

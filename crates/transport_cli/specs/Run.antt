@@ -1,0 +1,83 @@
+-- What the command `session` does.
+use Rattle.std.specs.Prelude.{◌≡◌, ℕ, Bool, false, List, [], ◌∷◌, ◌++◌, Option, codes, bytes_eq}
+use Rattle.port_io.specs.Causes.{RoseBy}
+use Rattle.port_io.specs.Told.{Gave}
+use Rattle.mail_plan.specs.declared.entry.Entry.{Entry}
+use Rattle.plant_dev.specs.Disk.{Image}
+use Rattle.hub_core.specs.Standing.{Standing, standing}
+use Rattle.queue_store.specs.Stands.{Stands}
+use Rattle.queue_store.specs.Calls.{after_entries, entries_categorise, entries_turn, misses}
+use Rattle.smtp_front.specs.declared.session_end.SessionEnd.{SessionEnd}
+use Rattle.smtp_front.specs.declared.session_end.SessionEnd.TheVariants as ends
+use Rattle.smtp_front.specs.Sessions.{Spoke}
+use Rattle.transport_cli.specs.declared.status.Status.{Status}
+use Rattle.transport_cli.specs.declared.status.Status.TheVariants as statuses
+use Rattle.transport_cli.specs.Answers.{HistoryGives}
+
+-- All is categorised, and then comes a turn at this clock, in which the puts went so.
+abbrev pub entries_finish : Standing → ℕ → List Bool → List Entry
+entries_finish s clock puts = entries_categorise s ++ entries_turn (after_entries s (entries_categorise s)) clock puts
+
+-- All was categorised and a turn was made: the image stands for the history with their entries, and as many puts failed
+-- as the count of the shelf's faults rose at most.
+pub record Turned (h : List Entry) (then now : ℕ → Option ℕ) (faults faults' : ℕ) (image : Image) : Type 0 where
+  pub turn : ℕ
+  pub puts : List Bool
+  pub clock : Gave then now (turn ∷ [])
+  pub stands : Stands image (h ++ entries_finish (standing h) turn puts)
+  pub missed : RoseBy (misses puts) faults faults'
+
+-- Categorising or the turn was cut short: the image stands for the history with what they had added.
+abbrev pub CutShort : List Entry → Image → Type 0
+CutShort h image = (done : List Entry) × Stands image (h ++ done)
+
+-- how a session ended that was read to its end or to QUIT, by the status of what followed
+abbrev pub Finishes : List Entry → (ℕ → Option ℕ) → (ℕ → Option ℕ) → ℕ → ℕ → Image → Status → Type 0
+Finishes h then now faults faults' image statuses.Done = Turned h then now faults faults' image
+Finishes h then now faults faults' image statuses.NoMemory = CutShort h image
+Finishes h then now faults faults' image statuses.LogFull = CutShort h image
+Finishes h then now faults faults' image statuses.NotALog = CutShort h image
+Finishes h then now faults faults' image status = ⊥
+
+-- the status of a session that ended otherwise
+abbrev pub status_of : SessionEnd → Status
+status_of ends.Quit = statuses.Done
+status_of ends.EndOfInput = statuses.Done
+status_of ends.Cut = statuses.Cut
+status_of ends.SourceFault = statuses.SourceFault
+status_of ends.SinkFault = statuses.SinkFault
+status_of ends.NoMemory = statuses.NoMemory
+status_of ends.LogFull = statuses.LogFull
+status_of (ends.NotALog at) = statuses.NotALog
+status_of ends.DeskFull = statuses.NoMemory
+status_of ends.TooLong = statuses.TooLong
+
+-- Nothing follows: the image stands for the history that the session left.
+pub record Stops (h : List Entry) (then now : ℕ → Option ℕ) (image : Image) (end : SessionEnd) (status : Status) : Type 0 where
+  pub status_is : status ≡ status_of end
+  pub clock : Gave then now []
+  pub stands : Stands image h
+
+-- what follows a session that ended so
+abbrev pub Ends : SessionEnd → List Entry → (ℕ → Option ℕ) → (ℕ → Option ℕ) → ℕ → ℕ → Image → Status → Type 0
+Ends ends.Quit h then now faults faults' image status = Finishes h then now faults faults' image status
+Ends ends.EndOfInput h then now faults faults' image status = Finishes h then now faults faults' image status
+Ends end h then now faults faults' image status = Stops h then now image end status
+
+-- A whole run of the command from a history: a session, whose submissions the history answers, and what follows it.
+pub record Ran (start : List Entry) (old now : ℕ → Option ℕ) (taken taken' before left : Option (List ℕ)) (faults faults' : ℕ) (image : Image) (status : Status) : Type 0 where
+  pub end : SessionEnd
+  pub h : List Entry
+  pub then : ℕ → Option ℕ
+  pub spoke : Spoke HistoryGives start h old then taken taken' before left end
+  pub rest : Ends end h then now faults faults' image status
+
+-- the words are the command
+abbrev pub is_session : List (List ℕ) → Bool
+is_session [] = false
+is_session (word ∷ []) = bytes_eq word (codes "session")
+is_session (word ∷ other ∷ words) = false
+
+-- the usage line
+abbrev pub usage_text : List ℕ
+usage_text = codes "usage: transport_cli session|turn [--workers N]|admin|check|make N [--workers W]" ++ 10 ∷ []

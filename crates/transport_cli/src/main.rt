@@ -1,0 +1,56 @@
+//! A mail hub: an SMTP session in, a log file and items in folders out.
+#![tactic(auto)]
+
+mod status;
+mod transport;
+
+use crate::transport::transport;
+use plant_dev::{FilePlant, FilePlantFault};
+use port_io::{ReaderSource, StdClock, WriterSink};
+use std::alloc::AllocError;
+use std::process::ExitCode;
+use std::{env, io};
+
+/// The exit status where the hub's folder or its log can't be made or opened.
+const NO_FOLDER: u8 = 17;
+
+fn run(rt: &HostRuntime) -> Result<u8, AllocError> {
+    let alloc = rt.alloc();
+    let mut words = Vec::new(alloc);
+    if let Ok(args) = env::args(rt) {
+        for word in args.skip(1) {
+            words.push(word)?;
+        }
+    }
+    let mut texts = Vec::new(alloc);
+    for word in &words {
+        texts.push(word.as_str())?;
+    }
+    let mut plant = match FilePlant::new(rt.clone()?, alloc, "hub") {
+        Ok(plant) => plant,
+        Err(FilePlantFault::NoMemory) => return Ok(2),
+        Err(FilePlantFault::Failed { .. }) => return Ok(NO_FOLDER),
+    };
+    let mut source = ReaderSource::new(rt.reader());
+    let mut sink = WriterSink::new(io::writer(rt));
+    let mut clock = StdClock::new(rt.clone()?);
+    let status = transport(
+        alloc,
+        texts.as_slice(),
+        &mut source,
+        &mut sink,
+        &mut plant,
+        &mut clock,
+    );
+    Ok(status.code())
+}
+
+fn main(rt: HostRuntime) -> ExitCode {
+    match run(&rt) {
+        Ok(code) => ExitCode::from(code),
+        Err(_) => ExitCode::from(2),
+    }
+}
+
+#[cfg(test)]
+mod tests;

@@ -1,0 +1,176 @@
+// The whole program over any source, sink, plant and clock.
+ghost use Rattle.std.specs.Prelude.{◌≡◌, ◌⊎◌, ◌≤◌, ℕ, List, [], ◌∷◌, ◌++◌, Bool, true, false, map, IsTrue};
+ghost use Rattle.std.specs.Io.KnownBytes.{Appends};
+ghost use Rattle.port_io.specs.Causes.{Rose};
+ghost use Rattle.mail_plan.specs.declared.entry.Entry.{Entry};
+ghost use Rattle.plant_dev.specs.Disk.{Stays};
+ghost use Rattle.queue_store.specs.Stands.{Stands};
+ghost use Rattle.queue_store.specs.Ready.{IsReady};
+ghost use Rattle.smtp_front.specs.Sessions.{Spoke};
+ghost use Rattle.transport_cli.specs.Answers.{HistoryGives};
+ghost use Rattle.transport_cli.specs.Run.{Ends, Finishes, Ran, is_session, usage_text};
+
+use crate::status::{Status, ended, refused};
+use plant_dev::Plant;
+use port_io::{Clock, Sink, Source, write_all_to};
+use queue_store::{Hub, LocalOffice};
+use smtp_front::{SessionEnd, session};
+use std::alloc::Global;
+
+const USAGE: &[u8] =
+    b"usage: transport_cli session|turn [--workers N]|admin|check|make N [--workers W]\n";
+
+// A session on a hub and a plant that are lent.
+fn speak<P: Plant, S: Source, K: Sink, C: Clock>(
+    alloc: Global,
+    office: &mut LocalOffice<'_, P>,
+    source: &mut S,
+    sink: &mut K,
+    clock: &mut C,
+) -> SessionEnd
+    ensures same { (office.new.hub.ghost_name ≡ office.old.hub.ghost_name) × (office.new.plant.ghost_name ≡ office.old.plant.ghost_name) }
+    ensures spoke { (h : List Entry) → IsReady (P.state office.old.plant.now) office.old.hub.now h →
+        (Rose (P.state office.old.plant.now).disk_faults (P.state office.new.plant.now).disk_faults → ⊥) →
+        (h' : List Entry) × Spoke HistoryGives h h' (C.moments clock.old) (C.moments clock.new) (K.taken sink.old) (K.taken sink.new) (S.left source.old) (S.left source.new) result
+        × IsReady (P.state office.new.plant.now) office.new.hub.now h' }
+    ensures stays { Stays (P.state office.old.plant.now) (P.state office.new.plant.now) }
+    ensures source { result ≡ SessionEnd.SourceFault → Rose (S.faults source.old) (S.faults source.new) }
+    ensures sink { result ≡ SessionEnd.SinkFault → Rose (K.faults sink.old) (K.faults sink.new) }
+{
+    session(alloc, office, source, sink, clock)
+}
+
+// A session on the hub.
+fn converse<P: Plant, S: Source, K: Sink, C: Clock>(
+    alloc: Global,
+    hub: &mut Hub,
+    plant: &mut P,
+    source: &mut S,
+    sink: &mut K,
+    clock: &mut C,
+) -> SessionEnd
+    ensures spoke { (h : List Entry) → IsReady (P.state plant.old) hub.old h → (Rose (P.state plant.old).disk_faults (P.state plant.new).disk_faults → ⊥) →
+        (h' : List Entry) × Spoke HistoryGives h h' (C.moments clock.old) (C.moments clock.new) (K.taken sink.old) (K.taken sink.new) (S.left source.old) (S.left source.new) result
+        × IsReady (P.state plant.new) hub.new h' }
+    ensures stays { Stays (P.state plant.old) (P.state plant.new) }
+    ensures source { result ≡ SessionEnd.SourceFault → Rose (S.faults source.old) (S.faults source.new) }
+    ensures sink { result ≡ SessionEnd.SinkFault → Rose (K.faults sink.old) (K.faults sink.new) }
+{
+    let mut office = LocalOffice { alloc, hub, plant };
+    speak(alloc, &mut office, source, sink, clock)
+}
+
+// Categorises all, and makes a turn.
+fn finish<P: Plant, C: Clock>(alloc: Global, hub: &mut Hub, plant: &mut P, clock: &mut C) -> Status
+    ensures finishes { (h : List Entry) → IsReady (P.state plant.old) hub.old h → (Rose (P.state plant.old).disk_faults (P.state plant.new).disk_faults → ⊥) →
+        Finishes h (C.moments clock.old) (C.moments clock.new) (P.state plant.old).shelf_faults (P.state plant.new).shelf_faults (P.state plant.new).image result }
+    ensures stays { Stays (P.state plant.old) (P.state plant.new) }
+    ensures disk { result ≡ Status.DiskFault → Rose (P.state plant.old).disk_faults (P.state plant.new).disk_faults }
+    ensures source { result ≡ Status.SourceFault → ⊥ }
+    ensures sink { result ≡ Status.SinkFault → ⊥ }
+    ensures usage { result ≡ Status.Usage → ⊥ }
+{
+    match hub.categorise_all(alloc, plant) {
+        Ok(()) => {}
+        Err(fault) => return refused(fault),
+    }
+    let turn = clock.now();
+    match hub.turn(alloc, plant, turn) {
+        Ok(()) => Status::Done,
+        Err(fault) => refused(fault),
+    }
+}
+
+// What follows a session that ended so.
+fn follow<P: Plant, C: Clock>(
+    alloc: Global,
+    hub: &mut Hub,
+    plant: &mut P,
+    clock: &mut C,
+    end: SessionEnd,
+) -> Status
+    ensures ends { (h : List Entry) → IsReady (P.state plant.old) hub.old h → (Rose (P.state plant.old).disk_faults (P.state plant.new).disk_faults → ⊥) →
+        Ends end h (C.moments clock.old) (C.moments clock.new) (P.state plant.old).shelf_faults (P.state plant.new).shelf_faults (P.state plant.new).image result }
+    ensures stays { Stays (P.state plant.old) (P.state plant.new) }
+    ensures disk { result ≡ Status.DiskFault → Rose (P.state plant.old).disk_faults (P.state plant.new).disk_faults }
+    ensures source { result ≡ Status.SourceFault → end ≡ SessionEnd.SourceFault }
+    ensures sink { result ≡ Status.SinkFault → end ≡ SessionEnd.SinkFault }
+    ensures usage { result ≡ Status.Usage → ⊥ }
+{
+    match end {
+        SessionEnd::Quit => finish(alloc, hub, plant, clock),
+        SessionEnd::EndOfInput => finish(alloc, hub, plant, clock),
+        end => ended(end),
+    }
+}
+
+// Opens the hub, runs a session, and then tries what waits.
+fn run_session<P: Plant, S: Source, K: Sink, C: Clock>(
+    alloc: Global,
+    source: &mut S,
+    sink: &mut K,
+    plant: &mut P,
+    clock: &mut C,
+) -> Status
+    ensures ran { IsTrue (P.state plant.old).honest → Stands (P.state plant.old).image [] → (Rose (P.state plant.old).disk_faults (P.state plant.new).disk_faults → ⊥) →
+        (result ≡ Status.NoMemory) ⊎ Ran [] (C.moments clock.old) (C.moments clock.new) (K.taken sink.old) (K.taken sink.new) (S.left source.old) (S.left source.new)
+        (P.state plant.old).shelf_faults (P.state plant.new).shelf_faults (P.state plant.new).image result }
+    ensures disk { result ≡ Status.DiskFault → Rose (P.state plant.old).disk_faults (P.state plant.new).disk_faults }
+    ensures source { result ≡ Status.SourceFault → Rose (S.faults source.old) (S.faults source.new) }
+    ensures sink { result ≡ Status.SinkFault → Rose (K.faults sink.old) (K.faults sink.new) }
+    ensures usage { result ≡ Status.Usage → ⊥ }
+{
+    match Hub::open_hub(alloc, plant) {
+        Err(fault) => refused(fault),
+        Ok(hub) => {
+            let mut hub = hub;
+            let end = converse(alloc, &mut hub, plant, source, sink, clock);
+            follow(alloc, &mut hub, plant, clock, end)
+        }
+    }
+}
+
+fn is_session(words: &[&str]) -> bool
+    ensures { result ≡ is_session (map (λ word. word.now) words.now) }
+{
+    match words {
+        [word] => *word == "session",
+        _ => false,
+    }
+}
+
+/// Runs a command. The words are without the program's name.
+///
+/// `session` opens the hub, runs one SMTP session from source to sink, and then categorises all that was accepted and
+/// makes one turn. Other words are no command yet, and are answered with the usage line.
+pub fn transport<S: Source, K: Sink, P: Plant, C: Clock>(
+    alloc: Global,
+    words: &[&str],
+    source: &mut S,
+    sink: &mut K,
+    plant: &mut P,
+    clock: &mut C,
+) -> Status
+    // Where no disk fault is counted, a session over an honest plant that stands for the empty history does what the
+    // definitions say, and the plant stands for the history that it leaves.
+    ensures session { is_session (map (λ word. word.now) words.now) ≡ true → IsTrue (P.state plant.old).honest → Stands (P.state plant.old).image [] →
+        (Rose (P.state plant.old).disk_faults (P.state plant.new).disk_faults → ⊥) →
+        (result ≡ Status.NoMemory) ⊎ Ran [] (C.moments clock.old) (C.moments clock.new) (K.taken sink.old) (K.taken sink.new) (S.left source.old) (S.left source.new)
+        (P.state plant.old).shelf_faults (P.state plant.new).shelf_faults (P.state plant.new).image result }
+    ensures usage { result ≡ Status.Usage → is_session (map (λ word. word.now) words.now) ≡ false }
+    ensures usage_text { result ≡ Status.Usage → Appends (K.taken sink.old) (K.taken sink.new) usage_text }
+    ensures other { is_session (map (λ word. word.now) words.now) ≡ false → (result ≡ Status.Usage) ⊎ (result ≡ Status.SinkFault) }
+
+    // A fault of an end is answered only where its count rose.
+    ensures disk { result ≡ Status.DiskFault → Rose (P.state plant.old).disk_faults (P.state plant.new).disk_faults }
+    ensures source { result ≡ Status.SourceFault → Rose (S.faults source.old) (S.faults source.new) }
+    ensures sink { result ≡ Status.SinkFault → Rose (K.faults sink.old) (K.faults sink.new) }
+{
+    if is_session(words) {
+        return run_session(alloc, source, sink, plant, clock);
+    }
+    match write_all_to(sink, USAGE) {
+        Ok(()) => Status::Usage,
+        Err(_) => Status::SinkFault,
+    }
+}
