@@ -162,6 +162,7 @@ module _ {I : Type 0} (gives : I → IntakeStep → I → Type 0) (state : I →
 
   went_on : (end : SessionEnd) (a b : I) (old new : ℕ → Option ℕ) (taken now : Option (List ℕ)) (text : List ℕ) (left : Option (List ℕ)) (h : List Entry) →
       WentOn gives a b old new taken now text left end → At a h → Quiet a b → Goes h b (λ h'. WentOn HistoryGives h h' old new taken now text left end)
+  unfolding waits_told
   went_on ends.Quit a b old new taken now text left h w at quiet = closes_told phases.New (began text) old taken a b new now ends.Quit h w at quiet
   went_on ends.EndOfInput a b old new taken now text left h (w, done, is) at quiet =
       let t = waits_told phases.New (began text) old taken a b new now h w at quiet in

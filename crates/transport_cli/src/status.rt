@@ -49,6 +49,7 @@ impl Status {
 
 /// The status of a call that the hub refused.
 pub fn refused(fault: HubFault) -> Status
+    ensures memory { fault ≡ HubFault.NoMemory → result ≡ Status.NoMemory }
     ensures disk { result ≡ Status.DiskFault → fault ≡ HubFault.DiskFault }
     ensures source { result ≡ Status.SourceFault → ⊥ }
     ensures sink { result ≡ Status.SinkFault → ⊥ }
