@@ -1,6 +1,8 @@
 -- Turns, one after another.
-use Rattle.std.proofs.Common.{◌≡◌, ℕ, ◌+◌, List, [], ◌∷◌, ◌++◌, length, map, arith, refl, ap, ◌∙◌, sym, subst, Option, Some, None}
+use Rattle.std.proofs.Common.{◌≡◌, ◌≤◌, ℕ, ◌+◌, List, [], ◌∷◌, ◌++◌, length, map, arith, refl, ap, ◌∙◌, sym, subst, Option, Some, None}
 use Rattle.std.proofs.lemmas.List.{append-nil, append_assoc}
+use Rattle.std.proofs.lemmas.Bool.{false≢true}
+use Rattle.std.specs.Option.{is_some}
 use Rattle.std.specs.Io.KnownBytes.{Appends}
 use Rattle.port_io.specs.Told.{Gave, Tells}
 use Rattle.port_io.proofs.Pieces.{Appends-twice, Appends-nothing}
@@ -111,3 +113,13 @@ turns-same p h (t ∷ ts) (u ∷ us) p1 p2 h1 h2 g k l =
     let rest = subst (λ (e : Event). Goes (react p e).phase (behind (react p e).deed (next_of h).held) us p2 h2) same k.1 in
     ap (λ (e : Event). e ∷ map (λ (t : Turn). t.event) ts) (sym same)
     ∙ ap (λ (es : List Event). u.event ∷ es) (turns-same (react p t.event).phase (behind (react p t.event).deed (next_of h).held) ts us p1 p2 h1 h2 g.1 rest (omega (arith, l)))
+
+pub none-left : (p : Phase) (h : Held) (ts us : List Turn) (p1 p2 : Phase) (h1 h2 : Held) → Goes p h ts p1 h1 → (next_of h1).event ≡ None → Goes p h us p2 h2 → length us ≤ length ts
+none-left p h ts [] p1 p2 h1 h2 g n k = omega arith
+none-left p h [] (u ∷ us) p1 p2 h1 h2 g n k =
+    absurd (false≢true (ap is_some (sym n ∙ ap (λ (x : Held). (next_of x).event) g.1 ∙ k.0)))
+none-left p h (t ∷ ts) (u ∷ us) p1 p2 h1 h2 g n k =
+    let same : u.event ≡ t.event = some-same u.event t.event (sym k.0 ∙ g.0) in
+    let rest = subst (λ (e : Event). Goes (react p e).phase (behind (react p e).deed (next_of h).held) us p2 h2) same k.1 in
+    let less = none-left (react p t.event).phase (behind (react p t.event).deed (next_of h).held) ts us p1 p2 h1 h2 g.1 n rest in
+    omega (arith, less)

@@ -26,7 +26,7 @@ is_byte b c = c == b
 abbrev pub is_same : List ℕ → List ℕ → Bool
 is_same text name = bytes_eq (lower text) (lower name)
 
--- The verb is what stands before the first space, without case; the argument is what stands behind that space.
+-- the verb that a word is, without case
 abbrev pub verb_of : List ℕ → Verb
 verb_of word =
     if is_same word (codes "HELO") then verbs.Helo
@@ -41,6 +41,7 @@ verb_of word =
     else (if is_same word (codes "EXPN") || (is_same word (codes "HELP") || (is_same word (codes "AUTH") || (is_same word (codes "STARTTLS") || is_same word (codes "TURN")))) then verbs.NotOffered
     else verbs.Unknown)))))))))
 
+-- The verb is what stands before a line's first space, and the argument what stands behind that space.
 abbrev pub word_of : List ℕ → List ℕ
 word_of line = before_first (is_byte 32) line
 

@@ -1,5 +1,5 @@
 -- What an event does: the table of verbs, each with its checks in order.
-use Rattle.std.specs.Prelude.{ℕ, nat_lt, Bool, true, false, if◌then◌else◌, List, [], ◌∷◌, ◌++◌, length, Option, Some, None, Result, Ok, Err}
+use Rattle.std.specs.Prelude.{ℕ, nat_lt, Bool, true, false, if◌then◌else◌, List, [], ◌∷◌, ◌++◌, length, codes, Option, Some, None, Result, Ok, Err}
 use Rattle.mail_plan.specs.declared.submission.Origin.TheVariants as origins
 use Rattle.mail_plan.specs.declared.submission.SubmissionFault.{SubmissionFault}
 use Rattle.mail_plan.specs.declared.submission.SubmissionFault.TheVariants as faults
@@ -16,7 +16,6 @@ use Rattle.smtp_front.specs.declared.react.Phase.{Phase}
 use Rattle.smtp_front.specs.declared.react.Phase.TheVariants as phases
 use Rattle.smtp_front.specs.declared.react.Deed.TheVariants as deeds
 use Rattle.smtp_front.specs.declared.react.Reaction.{Reaction}
-use Rattle.std.specs.Prelude.{codes}
 use Rattle.smtp_front.specs.Commands.{Form, trim, verb_of, word_of, argument_of, form_of, unrouted, mailbox_of}
 use Rattle.smtp_front.specs.Parameters.{words_of, any_refusal, refusal_of}
 

@@ -189,8 +189,8 @@ impl Dialog {
         Ok(None)
     }
 
-    /// Whether the text ends neither inside a line nor where content is awaited.
-    pub fn is_between(&self) -> bool
+    // Whether the text ends neither inside a line nor where content is awaited.
+    pub(crate) fn is_between(&self) -> bool
         ensures { (held : Held) → Holds self.now held → (next_of held).event ≡ None → result ≡ is_between held }
     {
         if self.awaits {

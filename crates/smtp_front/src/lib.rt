@@ -16,6 +16,6 @@ mod texts;
 mod verb;
 
 pub use dialog::{Dialog, Event};
-pub use laws::{cutting_is_free, events_are_settled, turns_are_determined};
+pub use laws::{cutting_is_free, events_are_settled, no_turn_is_left, turns_are_determined};
 pub use session_end::SessionEnd;
 pub use talk::session;

@@ -26,10 +26,17 @@ impl Intake for Answers {
         let answer = self.answers.get(self.at).copied();
         self.at = self.at.saturating_add(1);
         self.last = Some(submission);
-        if answer == Some(Err(IntakeFault::DiskFault)) {
-            self.faults = self.faults.saturating_add(1);
+        match answer {
+            Some(Err(fault)) => {
+                self.faults = self.faults.saturating_add(1);
+                Err(fault)
+            }
+            Some(Ok(accepted)) => Ok(accepted),
+            None => Ok(Accepted {
+                number: 1,
+                repeat: false,
+            }),
         }
-        answer.unwrap_or(accepted(1))
     }
 
     fn next_number(&mut self) -> Result<u64, IntakeFault> {
@@ -37,7 +44,7 @@ impl Intake for Answers {
     }
 }
 
-const fn accepted(number: u64) -> Result<Accepted, IntakeFault> {
+fn accepted(number: u64) -> Result<Accepted, IntakeFault> {
     Ok(Accepted {
         number,
         repeat: false,
@@ -84,6 +91,298 @@ fn talk_by<R: Abort>(
     Ok(intake)
 }
 
+/// Runs a session of this transcript: lines that begin with `C: ` are input, and those with `S: ` its replies.
+fn talk_script<R: Abort>(
+    rt: &R,
+    alloc: Global,
+    script: &str,
+    answers: &[Result<Accepted, IntakeFault>],
+    end: SessionEnd,
+) -> Result<Answers, Fail> {
+    let mut input = Vec::new(alloc);
+    let mut output = Vec::new(alloc);
+    for line in script.lines() {
+        if let Some(line) = line.strip_prefix("C: ") {
+            input.extend_from_slice(line.as_bytes())?;
+            input.extend_from_slice(b"\r\n")?;
+        }
+        if let Some(line) = line.strip_prefix("S: ") {
+            output.extend_from_slice(line.as_bytes())?;
+            output.extend_from_slice(b"\r\n")?;
+        }
+    }
+    talk(rt, alloc, input.as_slice(), answers, output.as_slice(), end)
+}
+
+/// The last submission that an intake was asked for.
+fn last(intake: &Answers) -> Result<&Submission, Fail> {
+    match &intake.last {
+        Some(submission) => Ok(submission),
+        None => Err("a submission is asked".into()),
+    }
+}
+
+const VERBS: &str = "\
+S: 220 hub.invalid mail hub ready\n\
+C: MAIL FROM:<ann@example.com>\n\
+S: 503 Bad sequence\n\
+C: RCPT TO:<no path>\n\
+S: 503 Bad sequence\n\
+C: HELO\n\
+S: 501 Bad argument\n\
+C: HELO \x20\t\x20\n\
+S: 501 Bad argument\n\
+C: HELO\tc\n\
+S: 500 Unknown command\n\
+C: helo  c\n\
+S: 250 hub.invalid\n\
+C: MAIL FROM:<ann@example.com> SIZE=1\n\
+S: 555 Unknown parameter\n\
+C: MAIL FROM:<ann@example.com> \x20\n\
+S: 250 OK\n\
+C: MAIL FROM:<ann@example.com>\n\
+S: 503 Bad sequence\n\
+C: DATA\n\
+S: 503 Bad sequence\n\
+C: RCPT TO:<Postmaster>\t\n\
+S: 250 OK\n\
+C: DATA x\n\
+S: 501 Bad argument\n\
+C: data\t\n\
+S: 354 End data with a dot line\n\
+C: A: b\n\
+C: \n\
+C: ..\n\
+C: .\n\
+S: 250 Accepted 1\n\
+C: RCPT TO:<bob@example.com>\n\
+S: 503 Bad sequence\n\
+C: MAIL FROM:<>\n\
+S: 250 OK\n\
+C: rset x\n\
+S: 250 OK\n\
+C: RCPT TO:<bob@example.com>\n\
+S: 503 Bad sequence\n\
+C: MAIL FROM:<ann@example.com>\n\
+S: 250 OK\n\
+C: RCPT TO:<bob@example.com>\n\
+S: 250 OK\n\
+C: HELO d\n\
+S: 250 hub.invalid\n\
+C: DATA\n\
+S: 503 Bad sequence\n\
+C: NoOp x\n\
+S: 250 OK\n\
+C: VRFY\n\
+S: 501 Bad argument\n\
+C: VRFY ann\n\
+S: 252 Not verified\n\
+C: EXPN staff\n\
+S: 502 Not implemented\n\
+C: help\n\
+S: 502 Not implemented\n\
+C: AUTH PLAIN\n\
+S: 502 Not implemented\n\
+C: STARTTLS\n\
+S: 502 Not implemented\n\
+C: TURN\n\
+S: 502 Not implemented\n\
+C: \n\
+S: 500 Unknown command\n\
+C: \x20\x20\n\
+S: 500 Unknown command\n\
+C:  NOOP\n\
+S: 500 Unknown command\n\
+C: NOOPS\n\
+S: 500 Unknown command\n\
+C: EHLO c\n\
+S: 250-hub.invalid\n\
+S: 250-SIZE 1048576\n\
+S: 250-8BITMIME\n\
+S: 250 PIPELINING\n\
+C: EHLO\n\
+S: 501 Bad argument\n\
+C: quit now\n\
+S: 221 hub.invalid closing";
+
+const MAILS: &str = "\
+S: 220 hub.invalid mail hub ready\n\
+C: EHLO c\n\
+S: 250-hub.invalid\n\
+S: 250-SIZE 1048576\n\
+S: 250-8BITMIME\n\
+S: 250 PIPELINING\n\
+C: MAIL\n\
+S: 501 Bad argument\n\
+C: MAIL ann@example.com\n\
+S: 501 Bad argument\n\
+C: MAIL FROM:ann@example.com\n\
+S: 501 Bad argument\n\
+C: MAIL FROM:<ann@example.com\n\
+S: 501 Bad argument\n\
+C: MAIL FROM:<ann@example.com>SIZE=1\n\
+S: 501 Bad argument\n\
+C: MAIL  FROM:<ann@example.com>\n\
+S: 501 Bad argument\n\
+C: MAIL FROM:\t<ann@example.com>\n\
+S: 501 Bad argument\n\
+C: MAIL FROM:<ann>\n\
+S: 553 Bad path\n\
+C: MAIL FROM:<ann> X\n\
+S: 553 Bad path\n\
+C: MAIL FROM:<a b@example.com>\n\
+S: 553 Bad path\n\
+C: MAIL FROM:<ann@example.com> SIZE=1048577\n\
+S: 552 Message too large\n\
+C: MAIL FROM:<ann@example.com> SIZE=12345678901234567890\n\
+S: 552 Message too large\n\
+C: MAIL FROM:<ann@example.com> SIZE=99999999999999999999\n\
+S: 552 Message too large\n\
+C: MAIL FROM:<ann@example.com> SIZE=000000000000000000001\n\
+S: 501 Bad argument\n\
+C: MAIL FROM:<ann@example.com> SIZE=\n\
+S: 501 Bad argument\n\
+C: MAIL FROM:<ann@example.com> SIZE=+1\n\
+S: 501 Bad argument\n\
+C: MAIL FROM:<ann@example.com> SIZE=1\tBODY=7BIT\n\
+S: 501 Bad argument\n\
+C: MAIL FROM:<ann@example.com> BODY=BINARYMIME\n\
+S: 501 Bad argument\n\
+C: MAIL FROM:<ann@example.com> BODY=\n\
+S: 501 Bad argument\n\
+C: MAIL FROM:<ann@example.com> SIZE\n\
+S: 555 Unknown parameter\n\
+C: MAIL FROM:<ann@example.com> SIZE=1 AUTH=<>\n\
+S: 555 Unknown parameter\n\
+C: MAIL FROM:<ann@example.com> X SIZE=1048577\n\
+S: 555 Unknown parameter\n\
+C: MAIL FROM:<ann@example.com> SIZE=1048577 X\n\
+S: 552 Message too large\n\
+C: RCPT TO:<bob@example.com>\n\
+S: 503 Bad sequence\n\
+C: MAIL FROM:<ann@example.com> SIZE=1\n\
+S: 250 OK\n\
+C: MAIL FROM:<no path\n\
+S: 503 Bad sequence\n\
+C: RSET\n\
+S: 250 OK\n\
+C: mail from:  <ann@example.com>  size=01048576   body=8bitmime\n\
+S: 250 OK\n\
+C: RSET\n\
+S: 250 OK\n\
+C: MAIL FROM:<ann@example.com> SIZE=00000000000000000001 BODY=7BIT SIZE=2\n\
+S: 250 OK\n\
+C: HELO c\n\
+S: 250 hub.invalid\n\
+C: MAIL FROM:<ann@example.com> BODY=7BIT\n\
+S: 555 Unknown parameter";
+
+const PATHS: &str = "\
+S: 220 hub.invalid mail hub ready\n\
+C: HELO c\n\
+S: 250 hub.invalid\n\
+C: MAIL FROM:<@r.example,@s.example:ann@example.com>\n\
+S: 250 OK\n\
+C: RSET\n\
+S: 250 OK\n\
+C: MAIL FROM:<@r.example:>\n\
+S: 250 OK\n\
+C: RSET\n\
+S: 250 OK\n\
+C: MAIL FROM:<@r.example>\n\
+S: 553 Bad path\n\
+C: MAIL FROM:<postMASTER>\n\
+S: 250 OK\n\
+C: RCPT\n\
+S: 501 Bad argument\n\
+C: RCPT FROM:<bob@example.com>\n\
+S: 501 Bad argument\n\
+C: RCPT TO:<bob@example.com>x\n\
+S: 501 Bad argument\n\
+C: RCPT TO:<>\n\
+S: 553 Bad path\n\
+C: RCPT TO:<@r.example:>\n\
+S: 553 Bad path\n\
+C: RCPT TO:<bob> X\n\
+S: 553 Bad path\n\
+C: RCPT TO:<bob@example.com> NOTIFY=NEVER\n\
+S: 555 Unknown parameter\n\
+C: DATA\n\
+S: 503 Bad sequence\n\
+C: RCPT TO:<@r.example:bob@example.com>\n\
+S: 250 OK\n\
+C: rcpt to: <@r.example:postmaster>\n\
+S: 250 OK";
+
+const ANSWERS: &str = "\
+S: 220 hub.invalid mail hub ready\n\
+C: HELO c\n\
+S: 250 hub.invalid\n\
+C: MAIL FROM:<ann@example.com>\n\
+C: RCPT TO:<bob@example.com>\n\
+C: DATA\n\
+S: 250 OK\n\
+S: 250 OK\n\
+S: 354 End data with a dot line\n\
+C: A: b\n\
+C: \n\
+C: .\n\
+S: 451 Disk fault, try again\n\
+C: MAIL FROM:<ann@example.com>\n\
+C: RCPT TO:<bob@example.com>\n\
+C: DATA\n\
+S: 250 OK\n\
+S: 250 OK\n\
+S: 354 End data with a dot line\n\
+C: A: b\n\
+C: \n\
+C: .\n\
+S: 452 Queue full\n\
+C: MAIL FROM:<ann@example.com>\n\
+C: RCPT TO:<bob@example.com>\n\
+C: DATA\n\
+S: 250 OK\n\
+S: 250 OK\n\
+S: 354 End data with a dot line\n\
+C: a: b\n\
+C: .\n\
+S: 554 Message can't be read: fault 1\n\
+C: MAIL FROM:<ann@example.com>\n\
+C: RCPT TO:<bob@example.com>\n\
+C: DATA\n\
+S: 250 OK\n\
+S: 250 OK\n\
+S: 354 End data with a dot line\n\
+C: no header\n\
+C: .\n\
+S: 554 Message can't be read: fault 2\n\
+C: MAIL FROM:<ann@example.com>\n\
+C: RCPT TO:<bob@example.com>\n\
+C: DATA\n\
+S: 250 OK\n\
+S: 250 OK\n\
+S: 354 End data with a dot line\n\
+C: A: b\n\
+C: \n\
+C: .\n\
+S: 250 Accepted 30";
+
+const CLOSING: &str = "\
+S: 220 hub.invalid mail hub ready\n\
+C: HELO c\n\
+S: 250 hub.invalid\n\
+C: MAIL FROM:<>\n\
+C: RCPT TO:<bob@example.com>\n\
+C: DATA\n\
+S: 250 OK\n\
+S: 250 OK\n\
+S: 354 End data with a dot line\n\
+C: A: b\n\
+C: \n\
+C: .\n\
+C: NOOP\n\
+S: 421 Closing: ";
+
 #[test]
 fn messages(rt: HostRuntime) -> Result<(), Fail> {
     let alloc = rt.alloc();
@@ -99,100 +398,17 @@ fn messages(rt: HostRuntime) -> Result<(), Fail> {
         output,
         SessionEnd::Quit,
     )?;
-    let Some(submission) = &intake.last else {
-        return Err("a submission is asked".into());
-    };
     assert_eq!(rt;
-        submission.bytes(),
+        last(&intake)?.bytes(),
         b"Message-Id: <m3@example.com>\r\n\r\n.x\r\na\n.\nb\r\n".as_slice()
     );
     Ok(())
 }
 
-/// A command line or a content with its dot line, and the reply to it.
-type Row = (&'static str, &'static str);
-
-/// Runs a session of these rows, which QUIT ends.
-fn talk_rows<R: Abort>(
-    rt: &R,
-    alloc: Global,
-    rows: &[Row],
-    answers: &[Result<Accepted, IntakeFault>],
-) -> Result<Answers, Fail> {
-    let mut input = Vec::new(alloc);
-    let mut output = Vec::from_slice(alloc, b"220 hub.invalid mail hub ready\r\n")?;
-    for (line, reply) in rows {
-        input.extend_from_slice(line.as_bytes())?;
-        input.extend_from_slice(b"\r\n")?;
-        output.extend_from_slice(reply.as_bytes())?;
-        output.extend_from_slice(b"\r\n")?;
-    }
-    input.extend_from_slice(b"QUIT\r\n")?;
-    output.extend_from_slice(b"221 hub.invalid closing\r\n")?;
-    talk(
-        rt,
-        alloc,
-        input.as_slice(),
-        answers,
-        output.as_slice(),
-        SessionEnd::Quit,
-    )
-}
-
-const START: &str = "354 End data with a dot line";
-
 #[test]
 fn verbs(rt: HostRuntime) -> Result<(), Fail> {
-    let alloc = rt.alloc();
-    let rows: [Row; 37] = [
-        ("MAIL FROM:<ann@example.com>", "503 Bad sequence"),
-        ("RCPT TO:<no path>", "503 Bad sequence"),
-        ("HELO", "501 Bad argument"),
-        ("HELO  \t ", "501 Bad argument"),
-        ("HELO\tc", "500 Unknown command"),
-        ("helo c", "250 hub.invalid"),
-        (
-            "MAIL FROM:<ann@example.com> SIZE=1",
-            "555 Unknown parameter",
-        ),
-        ("MAIL FROM:<ann@example.com>  ", "250 OK"),
-        ("MAIL FROM:<ann@example.com>", "503 Bad sequence"),
-        ("DATA", "503 Bad sequence"),
-        ("RCPT TO:<Postmaster>\t", "250 OK"),
-        ("DATA x", "501 Bad argument"),
-        ("data\t", START),
-        ("A: b\r\n\r\n..\r\n.", "250 Accepted 1"),
-        ("RCPT TO:<bob@example.com>", "503 Bad sequence"),
-        ("MAIL FROM:<>", "250 OK"),
-        ("rset x", "250 OK"),
-        ("RCPT TO:<bob@example.com>", "503 Bad sequence"),
-        ("MAIL FROM:<ann@example.com>", "250 OK"),
-        ("RCPT TO:<bob@example.com>", "250 OK"),
-        ("HELO d", "250 hub.invalid"),
-        ("DATA", "503 Bad sequence"),
-        ("NoOp x", "250 OK"),
-        ("VRFY", "501 Bad argument"),
-        ("VRFY ann", "252 Not verified"),
-        ("EXPN staff", "502 Not implemented"),
-        ("help", "502 Not implemented"),
-        ("AUTH PLAIN", "502 Not implemented"),
-        ("STARTTLS", "502 Not implemented"),
-        ("TURN", "502 Not implemented"),
-        ("", "500 Unknown command"),
-        ("  ", "500 Unknown command"),
-        (" NOOP", "500 Unknown command"),
-        ("NOOPS", "500 Unknown command"),
-        (
-            "EHLO c",
-            "250-hub.invalid\r\n250-SIZE 1048576\r\n250-8BITMIME\r\n250 PIPELINING",
-        ),
-        ("RSET", "250 OK"),
-        ("EHLO", "501 Bad argument"),
-    ];
-    let intake = talk_rows(&rt, alloc, &rows, &[])?;
-    let Some(submission) = &intake.last else {
-        return Err("a submission is asked".into());
-    };
+    let intake = talk_script(&rt, rt.alloc(), VERBS, &[], SessionEnd::Quit)?;
+    let submission = last(&intake)?;
     assert_eq!(rt; submission.bytes(), b"A: b\r\n\r\n.\r\n".as_slice());
     let recipient = submission.recipients().first().map(|key| key.bytes());
     assert!(rt; recipient == Some(b"postmaster@hub.invalid".as_slice()));
@@ -201,149 +417,22 @@ fn verbs(rt: HostRuntime) -> Result<(), Fail> {
 
 #[test]
 fn paths_and_parameters(rt: HostRuntime) -> Result<(), Fail> {
-    let ehlo = (
-        "EHLO c",
-        "250-hub.invalid\r\n250-SIZE 1048576\r\n250-8BITMIME\r\n250 PIPELINING",
-    );
-    let reset = ("RSET", "250 OK");
-    let rows: [Row; 53] = [
-        ehlo,
-        ("MAIL", "501 Bad argument"),
-        ("MAIL ann@example.com", "501 Bad argument"),
-        ("MAIL FROM:ann@example.com", "501 Bad argument"),
-        ("MAIL FROM:<ann@example.com", "501 Bad argument"),
-        ("MAIL FROM:<ann@example.com>SIZE=1", "501 Bad argument"),
-        ("MAIL  FROM:<ann@example.com>", "501 Bad argument"),
-        ("MAIL FROM:\t<ann@example.com>", "501 Bad argument"),
-        ("MAIL FROM:<ann>", "553 Bad path"),
-        ("MAIL FROM:<ann> X", "553 Bad path"),
-        ("MAIL FROM:<a b@example.com>", "553 Bad path"),
-        (
-            "MAIL FROM:<ann@example.com> SIZE=1048577",
-            "552 Message too large",
-        ),
-        (
-            "MAIL FROM:<ann@example.com> SIZE=12345678901234567890",
-            "552 Message too large",
-        ),
-        (
-            "MAIL FROM:<ann@example.com> SIZE=99999999999999999999",
-            "552 Message too large",
-        ),
-        (
-            "MAIL FROM:<ann@example.com> SIZE=000000000000000000001",
-            "501 Bad argument",
-        ),
-        ("MAIL FROM:<ann@example.com> SIZE=", "501 Bad argument"),
-        ("MAIL FROM:<ann@example.com> SIZE=+1", "501 Bad argument"),
-        (
-            "MAIL FROM:<ann@example.com> SIZE=1\tBODY=7BIT",
-            "501 Bad argument",
-        ),
-        (
-            "MAIL FROM:<ann@example.com> BODY=BINARYMIME",
-            "501 Bad argument",
-        ),
-        ("MAIL FROM:<ann@example.com> BODY=", "501 Bad argument"),
-        ("MAIL FROM:<ann@example.com> SIZE", "555 Unknown parameter"),
-        (
-            "MAIL FROM:<ann@example.com> SIZE=1 AUTH=<>",
-            "555 Unknown parameter",
-        ),
-        (
-            "MAIL FROM:<ann@example.com> X SIZE=1048577",
-            "555 Unknown parameter",
-        ),
-        (
-            "MAIL FROM:<ann@example.com> SIZE=1048577 X",
-            "552 Message too large",
-        ),
-        ("RCPT TO:<bob@example.com>", "503 Bad sequence"),
-        ("MAIL FROM:<ann@example.com> SIZE=1", "250 OK"),
-        ("MAIL FROM:<no path", "503 Bad sequence"),
-        reset,
-        (
-            "mail from:  <ann@example.com>  size=01048576   body=8bitmime",
-            "250 OK",
-        ),
-        reset,
-        (
-            "MAIL FROM:<ann@example.com> SIZE=00000000000000000001 BODY=7BIT SIZE=2",
-            "250 OK",
-        ),
-        reset,
-        (
-            "MAIL FROM:<@r.example,@s.example:ann@example.com>",
-            "250 OK",
-        ),
-        reset,
-        ("MAIL FROM:<@r.example:>", "250 OK"),
-        reset,
-        ("MAIL FROM:<@r.example>", "553 Bad path"),
-        ("MAIL FROM:<postMASTER>", "250 OK"),
-        ("RCPT", "501 Bad argument"),
-        ("RCPT FROM:<bob@example.com>", "501 Bad argument"),
-        ("RCPT TO:<bob@example.com>x", "501 Bad argument"),
-        ("RCPT TO:<>", "553 Bad path"),
-        ("RCPT TO:<@r.example:>", "553 Bad path"),
-        ("RCPT TO:<bob> X", "553 Bad path"),
-        (
-            "RCPT TO:<bob@example.com> NOTIFY=NEVER",
-            "555 Unknown parameter",
-        ),
-        ("DATA", "503 Bad sequence"),
-        ("RCPT TO:<@r.example:bob@example.com>", "250 OK"),
-        ("rcpt to: <@r.example:postmaster>", "250 OK"),
-        ("HELO c", "250 hub.invalid"),
-        (
-            "MAIL FROM:<ann@example.com> BODY=7BIT",
-            "555 Unknown parameter",
-        ),
-        ("MAIL FROM:<ann@example.com>", "250 OK"),
-        ehlo,
-        ("MAIL FROM:<ann@example.com> BODY=7BIT", "250 OK"),
-    ];
-    let intake = talk_rows(&rt, rt.alloc(), &rows, &[])?;
-    assert!(rt; intake.last.is_none());
+    let _mails = talk_script(&rt, rt.alloc(), MAILS, &[], SessionEnd::EndOfInput)?;
+    let _paths = talk_script(&rt, rt.alloc(), PATHS, &[], SessionEnd::EndOfInput)?;
     Ok(())
 }
 
 #[test]
-fn answers_of_the_intake(rt: HostRuntime) -> Result<(), Fail> {
-    let alloc = rt.alloc();
-    let mail = ("MAIL FROM:<ann@example.com>", "250 OK");
-    let rcpt = ("RCPT TO:<bob@example.com>", "250 OK");
-    let data = ("DATA", START);
-    let content = "A: b\r\n\r\nc\r\n.";
-    let rows: [Row; 21] = [
-        ("HELO c", "250 hub.invalid"),
-        mail,
-        rcpt,
-        data,
-        (content, "451 Disk fault, try again"),
-        mail,
-        rcpt,
-        data,
-        (content, "452 Queue full"),
-        mail,
-        rcpt,
-        data,
-        ("a: b\r\n.", "554 Message can't be read: fault 1"),
-        mail,
-        rcpt,
-        data,
-        ("no header\r\n.", "554 Message can't be read: fault 2"),
-        mail,
-        rcpt,
-        data,
-        (content, "250 Accepted 30"),
-    ];
-    let answers = [
-        Err(IntakeFault::DiskFault),
-        Err(IntakeFault::QueueFull { live: 1, bytes: 2 }),
-        accepted(30),
-    ];
-    let _intake = talk_rows(&rt, alloc, &rows, &answers)?;
+fn answers_that_go_on(rt: HostRuntime) -> Result<(), Fail> {
+    let full = IntakeFault::QueueFull { live: 1, bytes: 2 };
+    let answers = [Err(IntakeFault::DiskFault), Err(full), accepted(30)];
+    let intake = talk_script(&rt, rt.alloc(), ANSWERS, &answers, SessionEnd::EndOfInput)?;
+    assert_eq!(rt; intake.at, 3);
+    Ok(())
+}
+
+#[test]
+fn answers_that_end(rt: HostRuntime) -> Result<(), Fail> {
     let ends = [
         (IntakeFault::NoMemory, "no memory", SessionEnd::NoMemory),
         (
@@ -363,16 +452,9 @@ fn answers_of_the_intake(rt: HostRuntime) -> Result<(), Fail> {
         ),
     ];
     for (fault, words, end) in ends {
-        let input =
-            b"HELO c\r\nMAIL FROM:<>\r\nRCPT TO:<bob@example.com>\r\nDATA\r\nA: b\r\n\r\n.\r\nNOOP\r\n";
-        let output = format!(in alloc;
-            "220 hub.invalid mail hub ready\r\n250 hub.invalid\r\n250 OK\r\n250 OK\r\n{START}\r\n421 Closing: {words}\r\n"
-        )?;
-        let intake = talk(&rt, alloc, input, &[Err(fault)], output.as_bytes(), end)?;
-        let Some(submission) = &intake.last else {
-            return Err("a submission is asked".into());
-        };
-        assert!(rt; submission.reverse().is_none());
+        let script = format!(in rt.alloc(); "{CLOSING}{words}")?;
+        let intake = talk_script(&rt, rt.alloc(), script.as_str(), &[Err(fault)], end)?;
+        assert!(rt; last(&intake)?.reverse().is_none());
     }
     Ok(())
 }
@@ -413,10 +495,7 @@ fn recipients_and_long_lines(rt: HostRuntime) -> Result<(), Fail> {
         output.as_slice(),
         SessionEnd::EndOfInput,
     )?;
-    let Some(submission) = &intake.last else {
-        return Err("a submission is asked".into());
-    };
-    assert_eq!(rt; submission.recipients().len(), 1000);
+    assert_eq!(rt; last(&intake)?.recipients().len(), 1000);
     Ok(())
 }
 
@@ -431,7 +510,7 @@ fn large_contents(rt: HostRuntime) -> Result<(), Fail> {
         input.extend_from_slice(vec![in alloc; b'x'; 1_048_566 + more]?.as_slice())?;
         input.extend_from_slice(b"\r\n.\r\nRCPT TO:<bob@example.com>\r\n")?;
         let output = format!(in alloc;
-            "220 hub.invalid mail hub ready\r\n250 hub.invalid\r\n250 OK\r\n250 OK\r\n{START}\r\n{reply}\r\n503 Bad sequence\r\n"
+            "220 hub.invalid mail hub ready\r\n250 hub.invalid\r\n250 OK\r\n250 OK\r\n354 End data with a dot line\r\n{reply}\r\n503 Bad sequence\r\n"
         )?;
         for piece in [7, 4096] {
             let intake = talk_by(
@@ -473,9 +552,14 @@ fn ends(rt: HostRuntime) -> Result<(), Fail> {
     let _lf = talk(&rt, alloc, b"HELO c\n", &[], greeting, SessionEnd::Cut)?;
     let _data = talk(&rt, alloc, data, &[], started, SessionEnd::Cut)?;
     let _part = talk(&rt, alloc, part, &[], started, SessionEnd::Cut)?;
-    // Each end fails in turn at its second call.
-    let mut source = MemorySource::new(Bytes::of(alloc, data)?, 8, Bytes::of(alloc, &[0, 1])?);
-    let mut sink = MemorySink::new(alloc, Bytes::new(alloc));
+    Ok(())
+}
+
+#[test]
+fn faults_in_mid_stream(rt: HostRuntime) -> Result<(), Fail> {
+    let alloc = rt.alloc();
+    let input = b"HELO c\r\nMAIL FROM:<>\r\n";
+    let fails = &[0u8, 1];
     let mut clock = MemoryClock::new(Vec::new(alloc));
     let mut intake = Answers {
         answers: Vec::new(alloc),
@@ -483,14 +567,22 @@ fn ends(rt: HostRuntime) -> Result<(), Fail> {
         faults: 0,
         last: None,
     };
+    let mut source = MemorySource::new(Bytes::of(alloc, input)?, 8, Bytes::of(alloc, fails)?);
+    let mut sink = MemorySink::new(alloc, Bytes::new(alloc));
     let end = session(alloc, &mut intake, &mut source, &mut sink, &mut clock);
     assert_eq!(rt; end, SessionEnd::SourceFault);
-    assert_eq!(rt; sink.bytes(), hello.as_slice());
-    let mut source = MemorySource::new(Bytes::of(alloc, data)?, 8, Bytes::new(alloc));
-    let mut sink = MemorySink::new(alloc, Bytes::of(alloc, &[0, 1])?);
+    assert_eq!(rt;
+        sink.bytes(),
+        b"220 hub.invalid mail hub ready\r\n250 hub.invalid\r\n".as_slice()
+    );
+    let mut source = MemorySource::new(Bytes::of(alloc, input)?, 8, Bytes::new(alloc));
+    let mut sink = MemorySink::new(alloc, Bytes::of(alloc, fails)?);
     let end = session(alloc, &mut intake, &mut source, &mut sink, &mut clock);
     assert_eq!(rt; end, SessionEnd::SinkFault);
-    assert_eq!(rt; sink.bytes(), greeting.as_slice());
+    assert_eq!(rt;
+        sink.bytes(),
+        b"220 hub.invalid mail hub ready\r\n".as_slice()
+    );
     Ok(())
 }
 
