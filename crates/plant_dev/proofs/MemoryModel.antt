@@ -24,25 +24,29 @@ module _ (first : Image) where
   elapses_same : (i j : Image) (past : List Step) (r r' : Rest) → Elapses (memory_state first i past r) (memory_state first j past r')
   elapses_same i j past r r' = record { later = omega arith; nothing_else = λ t c le left. inl left; keeps = λ t c le left. left }
 
-  before_step : (x : Step) (past : List Step) (t k : ℕ) (c : Image) → t + k ≤ length (x ∷ past) → IsImage first (drop k (x ∷ past)) c → HasLeft first past t c ⊎ HasLeft first (x ∷ past) (length (x ∷ past)) c
+  before_step : (x : Step) (past : List Step) (t k : ℕ) (c : Image) → t + k ≤ length (x ∷ past)
+      → IsImage first (drop k (x ∷ past)) c → HasLeft first past t c ⊎ HasLeft first (x ∷ past) (length (x ∷ past)) c
   before_step x past t zero c within left = inr (left_now first (x ∷ past) c left)
   before_step x past t (suc k) c within left = inl (k, omega arith, left)
 
-  elapses_step : (i j : Image) (x : Step) (past : List Step) (r r' : Rest) → Elapses (memory_state first i past r) (memory_state first j (x ∷ past) r')
+  elapses_step : (i j : Image) (x : Step) (past : List Step) (r r' : Rest)
+      → Elapses (memory_state first i past r) (memory_state first j (x ∷ past) r')
   elapses_step i j x past r r' = record {
     later = omega arith;
     nothing_else = λ t c le left. before_step x past t left.0 c left.1 left.2;
     keeps = λ t c le left. (suc left.0, omega (arith, left.1), left.2);
   }
 
-  writes_step : (i : Image) (past : List Step) (r r' : Rest) (at : ℕ) (bytes : List ℕ) → Writes at bytes (memory_state first i past r) (memory_state first (record { file = put_at at bytes i.file; shelf = i.shelf }) (steps.Write at bytes ∷ past) r')
+  writes_step : (i : Image) (past : List Step) (r r' : Rest) (at : ℕ) (bytes : List ℕ)
+      → Writes at bytes (memory_state first i past r) (memory_state first (record { file = put_at at bytes i.file; shelf = i.shelf }) (steps.Write at bytes ∷ past) r')
   writes_step i past r r' at bytes = record {
     image = record { file = put_at_torn at bytes i.file; shelf = refl };
     crash = λ c left. let (from, was, step) = now_left first (steps.Write at bytes ∷ past) c left in (from, left_now first past from was, step);
     time = elapses_step i (record { file = put_at at bytes i.file; shelf = i.shelf }) (steps.Write at bytes) past r r';
   }
 
-  before_sync : (past : List Step) (t k : ℕ) (c : Image) → t ≤ length past → t + k ≤ length (steps.Sync ∷ past) → IsImage first (drop k (steps.Sync ∷ past)) c → HasLeft first past t c
+  before_sync : (past : List Step) (t k : ℕ) (c : Image) → t ≤ length past → t + k ≤ length (steps.Sync ∷ past)
+      → IsImage first (drop k (steps.Sync ∷ past)) c → HasLeft first past t c
   before_sync past t zero c le within left = (0, omega arith, left.0)
   before_sync past t (suc k) c le within left = (k, omega arith, left)
 
@@ -55,7 +59,8 @@ module _ (first : Image) where
     keeps = λ t c le left. (suc left.0, omega (arith, left.1), left.2);
   }
 
-  put_step : (i : Image) (past : List Step) (r r' : Rest) (item : Stored) → ((c : Image) → IsImage first past c → Has item.folder item.name c.shelf → ⊥) → (Has item.folder item.name i.shelf → ⊥)
+  put_step : (i : Image) (past : List Step) (r r' : Rest) (item : Stored) → ((c : Image) → IsImage first past c → Has item.folder item.name c.shelf → ⊥)
+      → (Has item.folder item.name i.shelf → ⊥)
       → Shelves (Puts item) (memory_state first i past r) (memory_state first (record { file = i.file; shelf = i.shelf ++ item ∷ [] }) (steps.Put item ∷ past) r')
   put_step i past r r' item free here = record {
     image = record { file = refl; shelf = inr (here, refl) };
@@ -68,7 +73,8 @@ module _ (first : Image) where
   same_shelf [] c is = ap (λ (j : Image). j.shelf) is
   same_shelf (steps.Write at bytes ∷ past) c (d, was, step) = step.shelf ∙ same_shelf past d was
   same_shelf (steps.Sync ∷ past) c (was, file) = same_shelf past c was
-  same_shelf (steps.Put item ∷ past) c (d, was, is) = ap (λ (j : Image). j.shelf) is ∙ ap (λ (l : List Stored). l ++ item ∷ []) (same_shelf past d was)
+  same_shelf (steps.Put item ∷ past) c (d, was, is) =
+      ap (λ (j : Image). j.shelf) is ∙ ap (λ (l : List Stored). l ++ item ∷ []) (same_shelf past d was)
 
 -- the same, where what is there afterwards is known by equations
 pub writes_to : (first first' i i' : Image) (past past' : List Step) (r r' : Rest) (at : ℕ) (bytes : List ℕ)
@@ -115,7 +121,9 @@ settled first i past r folder name kept c left =
     (λ has. subst (Has folder name) same has, λ has. subst (Has folder name) (sym same) has)
 
 -- what a sync leaves, as far as the steps have been gone through
-pub replay_sync : (first : Image) (past : List Step) (full torn : List ℕ) (shelf : List Stored) → full ≡ file_after first.file past → IsImage first past (record { file = torn; shelf = shelf }) → IsImage first past (record { file = full; shelf = shelf })
+pub replay_sync : (first : Image) (past : List Step) (full torn : List ℕ) (shelf : List Stored)
+    → full ≡ file_after first.file past → IsImage first past (record { file = torn; shelf = shelf })
+    → IsImage first past (record { file = full; shelf = shelf })
 replay_sync first past full torn shelf whole image =
     let same : record { file = file_after first.file past; shelf = shelf_after first.shelf past } ≡ record { file = full; shelf = shelf } =
     λ i. record { file = sym whole i; shelf = sym (same_shelf first past (record { file = torn; shelf = shelf }) image) i } in
@@ -145,7 +153,8 @@ added_to first first' i i' past past' r r' item kept f (inl (there, is, p)) =
     (subst (λ (z : List Step). Shelves (Puts item) (memory_state first i past r) (memory_state first i z r')) (sym p) (there_to first i past r r' item kept there)))
 
 -- a shelf's step that allows more
-pub shelves_by : (step wide : List Stored → List Stored → Type 0) (old after : State) → ((a b : List Stored) → step a b → wide a b) → Shelves step old after → Shelves wide old after
+pub shelves_by : (step wide : List Stored → List Stored → Type 0) (old after : State) → ((a b : List Stored) → step a b → wide a b)
+    → Shelves step old after → Shelves wide old after
 shelves_by step wide old after to puts = record {
   image = record { file = puts.image.file; shelf = to old.image.shelf after.image.shelf puts.image.shelf };
   crash = λ c left. let (from, was, by) = puts.crash c left in (from, was, record { file = by.file; shelf = to from.shelf c.shelf by.shelf });

@@ -35,16 +35,21 @@ module _ (at : ℕ) (bytes file : List ℕ) where
   }
 
 -- what is read is one of the images
-pub memory_image : (first : Image) (past : List Step) → IsImage first past (record { file = file_after first.file past; shelf = shelf_after first.shelf past })
+pub memory_image : (first : Image) (past : List Step)
+    → IsImage first past (record { file = file_after first.file past; shelf = shelf_after first.shelf past })
 memory_image first [] = refl
-memory_image first (steps.Write at bytes ∷ past) = (record { file = file_after first.file past; shelf = shelf_after first.shelf past }, memory_image first past, record { file = put_at_torn at bytes (file_after first.file past); shelf = refl })
+memory_image first (steps.Write at bytes ∷ past) =
+    (record { file = file_after first.file past; shelf = shelf_after first.shelf past }, memory_image first past, record { file = put_at_torn at bytes (file_after first.file past); shelf = refl })
 memory_image first (steps.Sync ∷ past) = (memory_image first past, refl)
-memory_image first (steps.Put item ∷ past) = (record { file = file_after first.file past; shelf = shelf_after first.shelf past }, memory_image first past, refl)
+memory_image first (steps.Put item ∷ past) =
+    (record { file = file_after first.file past; shelf = shelf_after first.shelf past }, memory_image first past, refl)
 
-pub memory_is_image : (first image : Image) (past : List Step) → image.file ≡ file_after first.file past → image.shelf ≡ shelf_after first.shelf past → HasLeft first past (length past) image
+pub memory_is_image : (first image : Image) (past : List Step) → image.file ≡ file_after first.file past
+    → image.shelf ≡ shelf_after first.shelf past → HasLeft first past (length past) image
 memory_is_image first image past file shelf =
     let same : image ≡ record { file = file_after first.file past; shelf = shelf_after first.shelf past } = λ i. record { file = file i; shelf = shelf i } in
     (0, omega arith, subst (IsImage first past) (sym same) (memory_image first past))
 
-pub memory_counts_now : (first : Image) (past : List Step) (t : ℕ) (c : Image) → t ≤ length past → HasLeft first past (length past) c → HasLeft first past t c
+pub memory_counts_now : (first : Image) (past : List Step) (t : ℕ) (c : Image) → t ≤ length past
+    → HasLeft first past (length past) c → HasLeft first past t c
 memory_counts_now first past t c le (k, within, left) = (k, omega arith, left)

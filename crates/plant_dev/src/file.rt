@@ -21,18 +21,31 @@ pub enum FilePlantFault {
 }
 
 impl From<io::Error> for FilePlantFault {
+    ghost use Rattle.std.specs.IoError.{error_kind};
+    ghost use Rattle.plant_dev.specs.declared.file.FilePlantFault.TheVariants as faults;
+
+    ghost from_gives = { λ e fault. fault ≡ faults.Failed (error_kind e) };
+
     fn from(error: io::Error) -> Self {
         FilePlantFault::Failed { kind: error.kind() }
     }
 }
 
 impl From<NoMemory> for FilePlantFault {
+    ghost use Rattle.plant_dev.specs.declared.file.FilePlantFault.TheVariants as faults;
+
+    ghost from_gives = { λ _ fault. fault ≡ faults.NoMemory };
+
     fn from(_: NoMemory) -> Self {
         FilePlantFault::NoMemory
     }
 }
 
 impl From<AllocError> for FilePlantFault {
+    ghost use Rattle.plant_dev.specs.declared.file.FilePlantFault.TheVariants as faults;
+
+    ghost from_gives = { λ _ fault. fault ≡ faults.NoMemory };
+
     fn from(_: AllocError) -> Self {
         FilePlantFault::NoMemory
     }
@@ -62,7 +75,12 @@ fn write_there<F: Write + Seek>(file: &mut F, at: u64, bytes: &[u8]) -> io::Resu
 
 impl<R: Files + Drop> FilePlant<R> {
     /// The plant in this folder. Folder and log file are made where they aren't there, and outlive a crash.
-    pub fn new(rt: R, alloc: Global, folder: &str) -> Result<FilePlant<R>, FilePlantFault> {
+    ///
+    /// `Failed` comes only where making the folder or opening the log file failed, with std's kind of error.
+    pub fn new(rt: R, alloc: Global, folder: &str) -> Result<FilePlant<R>, FilePlantFault>
+        ensures disk_faults { IfOk result (λ p. (⟦<FilePlant<R> as Plant>⟧.state p).disk_faults ≡ 0) }
+        ensures shelf_faults { IfOk result (λ p. (⟦<FilePlant<R> as Plant>⟧.state p).shelf_faults ≡ 0) }
+    {
         let path = format!(in alloc; "{folder}/queue.log")?;
         if !fs::exists(&rt, folder)? {
             fs::create_dir_all(&rt, folder)?;

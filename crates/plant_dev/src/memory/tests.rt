@@ -157,7 +157,7 @@ fn a_crash_leaves_what_was_synced(rt: HostRuntime) -> Result<(), Fail> {
         (2, b"abcdefg".as_slice()),
         (3, b"abcdefg".as_slice()),
     ] {
-        assert!(rt; crash_reads_as(&plant, pick, left), "of {pick}");
+        assert!(rt; crash_reads_as(&plant, pick, left), "pick {pick}");
     }
     assert!(rt; plant.sync().is_ok());
     assert!(rt; put(&mut plant, &ann, 1, b"a").is_ok());
@@ -167,9 +167,9 @@ fn a_crash_leaves_what_was_synced(rt: HostRuntime) -> Result<(), Fail> {
         (1 << 6, b"xbcdefg".as_slice()),
         (2 << 6, b"xycdefg".as_slice()),
     ] {
-        assert!(rt; crash_reads_as(&plant, pick, left), "of {pick}");
+        assert!(rt; crash_reads_as(&plant, pick, left), "pick {pick}");
         let mut image = plant.crash(pick).map_err(|_| "no memory")?;
-        assert!(rt; has(&mut image, &ann, 1) == Ok(true), "of {pick}");
+        assert!(rt; has(&mut image, &ann, 1) == Ok(true), "pick {pick}");
     }
     Ok(())
 }
