@@ -10,4 +10,8 @@ pub mod Spelling
 pub mod Delimiters
 pub mod Places
 pub mod Least
+pub mod Values
+pub mod Keeping
+pub mod HeaderLines
+pub mod Bounds
 pub mod ReadingOf

@@ -7,8 +7,8 @@ use Rattle.mail_message.specs.Message.{Mail, Reads}
 use Rattle.mail_message.specs.Reading.{with_line}
 use Rattle.mail_message.specs.Faults.{most, Reading, Gives}
 use Rattle.mail_message.specs.ReadOf.{read_from, read_of}
-use Rattle.mail_message.specs.declared.MessageFault.{MessageFault}
-use Rattle.mail_message.specs.declared.MessageFault.TheVariants as faults
+use Rattle.mail_message.specs.declared.fault.MessageFault.{MessageFault}
+use Rattle.mail_message.specs.declared.fault.MessageFault.TheVariants as faults
 use Rattle.mail_message.proofs.Cut.{or_false, none}
 use Rattle.mail_message.proofs.Beginning.{Begins, begins, goes, reads, ends, breaks, cut_at}
 

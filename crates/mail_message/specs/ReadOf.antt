@@ -5,8 +5,8 @@ use Rattle.mail_message.specs.Lines.{ended_all, goes_on}
 use Rattle.mail_message.specs.Message.{Mail}
 use Rattle.mail_message.specs.Reading.{with_line}
 use Rattle.mail_message.specs.Faults.{most}
-use Rattle.mail_message.specs.declared.MessageFault.{MessageFault}
-use Rattle.mail_message.specs.declared.MessageFault.TheVariants as faults
+use Rattle.mail_message.specs.declared.fault.MessageFault.{MessageFault}
+use Rattle.mail_message.specs.declared.fault.MessageFault.TheVariants as faults
 
 -- The first empty line ends the header. Before it each line is of the header, or it is the fault.
 abbrev pub read_from : ℕ → List (List ℕ) → List (List ℕ) → List ℕ → Result Mail MessageFault

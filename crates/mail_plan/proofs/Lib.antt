@@ -3,3 +3,4 @@ mod Standing
 mod Forms
 mod Parts
 mod Made
+pub mod Printable

@@ -3,7 +3,7 @@ use Rattle.std.proofs.Common.{◌≡◌, ℕ, Bool, true, false, cond, List, len
 use Rattle.std.specs.Prelude.{nat_lt}
 use Rattle.mail_message.specs.Message.{Mail}
 use Rattle.mail_message.specs.ReadOf.{read_of}
-use Rattle.mail_message.specs.declared.MessageFault.{MessageFault}
+use Rattle.mail_message.specs.declared.fault.MessageFault.{MessageFault}
 use Rattle.mail_plan.specs.declared.submission.Origin.{Origin}
 use Rattle.mail_plan.specs.declared.submission.SubmissionFault.{SubmissionFault}
 use Rattle.mail_plan.specs.declared.submission.SubmissionFault.TheVariants as faults

@@ -3,7 +3,7 @@ use Rattle.std.specs.Prelude.{ℕ, if◌then◌else◌, List, [], ◌++◌, code
 use Rattle.mail_message.specs.Message.{Mail, text}
 use Rattle.mail_message.specs.Edits.{set_field}
 use Rattle.mail_message.specs.ReadOf.{read_of}
-use Rattle.mail_message.specs.declared.MessageFault.{MessageFault}
+use Rattle.mail_message.specs.declared.fault.MessageFault.{MessageFault}
 use Rattle.mail_plan.specs.Submission.{has_message_id}
 
 -- <N@hub.invalid>

@@ -3,8 +3,8 @@ use Rattle.std.specs.Prelude.{◌≡◌, ◌&&◌, ◌||◌, not, nat_lt, ℕ, B
 use Rattle.std.specs.Cmp.Lexicographic.{pointwise}
 use Rattle.mail_message.specs.Message.{Mail, field_of}
 use Rattle.mail_message.specs.ReadOf.{read_of}
-use Rattle.mail_message.specs.declared.MessageFault.{MessageFault}
-use Rattle.mail_message.specs.declared.MessageFault.TheVariants as messages
+use Rattle.mail_message.specs.declared.fault.MessageFault.{MessageFault}
+use Rattle.mail_message.specs.declared.fault.MessageFault.TheVariants as messages
 use Rattle.mail_plan.specs.declared.submission.Origin.{Origin}
 use Rattle.mail_plan.specs.declared.submission.Origin.TheVariants as origins
 use Rattle.mail_plan.specs.declared.submission.SubmissionFault.{SubmissionFault}

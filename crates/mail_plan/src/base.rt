@@ -1,5 +1,6 @@
 // The message that is sent for a submission.
-ghost use Rattle.std.specs.Prelude.{◌≡◌, IfOk};
+ghost use Rattle.std.specs.Prelude.{◌≡◌, true, IfOk};
+ghost use Rattle.mail_message.specs.Lines.{is_printable};
 ghost use Rattle.mail_message.specs.ReadOf.{read_of};
 ghost use Rattle.mail_plan.specs.Base.{id_text, text_with_id, base_text};
 
@@ -8,8 +9,10 @@ use mail_message::Message;
 use mail_names::{Bytes, NoMemory};
 use std::alloc::Global;
 
+#[tactic(auto, using(crate::proofs::Printable::id_printable))]
 fn id_text(alloc: Global, number: u64) -> Result<Bytes, NoMemory>
-    ensures { IfOk result (λ text. text ≡ id_text number) }
+    ensures value { IfOk result (λ text. text ≡ id_text number) }
+    ensures printable { IfOk result (λ text. is_printable text ≡ true) }
 {
     let text = format!(in alloc; "<{number}@hub.invalid>")?;
     Bytes::of(alloc, text.as_bytes())

@@ -106,10 +106,7 @@ fn unreadable(fault: MessageFault) -> SubmissionFault
 {
     match fault {
         MessageFault::NoBlankLine => SubmissionFault::Unreadable { fault: 1, line: 0 },
-        MessageFault::BadField { line } => match u32::try_from(line) {
-            Ok(line) => SubmissionFault::Unreadable { fault: 2, line },
-            Err(_) => SubmissionFault::NoMemory,
-        },
+        MessageFault::BadField { line } => SubmissionFault::Unreadable { fault: 2, line },
         MessageFault::TooLarge => SubmissionFault::Unreadable { fault: 3, line: 0 },
         MessageFault::NoMemory => SubmissionFault::NoMemory,
     }

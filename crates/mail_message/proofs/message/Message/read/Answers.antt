@@ -1,6 +1,6 @@
+use Rattle.mail_message.specs.ReadOf.{read_of}
 use Rattle.mail_message.proofs.OneReading.{only}
 use Rattle.mail_message.proofs.ReadingOf.{reading_of}
-use Rattle.mail_message.specs.ReadOf.{read_of}
 use Rattle.mail_message.proofs.message.Message.read.Goals as goal
 
 pub returns-clause-only : goal.returns-clause-only
