@@ -1,5 +1,5 @@
 #!/usr/bin/env bash
-# Times the proved program on a real folder: messages a second, and octets a second of one message of 1 MiB.
+# Times the proved program on a real folder and prints a table: messages a second, and octets a second.
 # usage: bench/session.sh [MESSAGES]
 set -eu
 root=$(cd "$(dirname "$0")/.." && pwd)
@@ -10,34 +10,66 @@ work=$(mktemp -d)
 trap 'rm -rf "$work"' EXIT
 cd "$work"
 
-# make_session COUNT OCTETS: a session of COUNT distinct messages with bodies of OCTETS octets
+# make_session KIND COUNT: a session of COUNT distinct messages
+#   small: bodies of 1 KiB; large: bodies of nearly 1 MiB; dots: nearly 1 MiB of lines that begin with a dot;
+#   fields: nearly 1 MiB of 10,000 header fields, and no Message-Id, so that the hub sets one
 make_session() {
   python3 - "$1" "$2" <<'PY'
 import sys
-count, octets = int(sys.argv[1]), int(sys.argv[2])
+kind, count = sys.argv[1], int(sys.argv[2])
 out = sys.stdout
+line = "x" * 70 + "\r\n"
+body = {"small": line * 14, "large": line * 14400, "dots": ("..\r\n") * 260000, "fields": "body\r\n"}[kind]
+fields = "".join(f"X-Field-{n:05d}: {'v' * 85}\r\n" for n in range(10000)) if kind == "fields" else ""
 out.write("EHLO bench\r\n")
-body = ("x" * 70 + "\r\n") * (octets // 72)
 for n in range(count):
-    out.write(f"MAIL FROM:<ann@example.com>\r\nRCPT TO:<bob@example.com>\r\nDATA\r\nMessage-Id: <{n}@bench>\r\n\r\n{body}.\r\n")
+    head = fields or f"Message-Id: <{n}@bench>\r\n"
+    out.write(f"MAIL FROM:<ann@example.com>\r\nRCPT TO:<bob@example.com>\r\nDATA\r\n{head}\r\n{body}.\r\n")
 out.write("QUIT\r\n")
 PY
 }
 
-# timed NAME COUNT OCTETS
+# in_pieces OCTETS: copies the file input to the output, OCTETS in each write
+in_pieces() {
+  python3 -c '
+import os, sys
+size, text = int(sys.argv[1]), open("input", "rb").read()
+for at in range(0, len(text), size):
+    os.write(1, text[at:at + size])' "$1"
+}
+
+# row NAME NANOSECONDS ACCEPTED
+row() {
+  awk -v name="$1" -v n="$3" -v octets="$(stat -c %s input)" -v ns="$2" \
+    'BEGIN { s = ns / 1e9; printf "%-40s %8d %10.3f %12.1f %14.0f\n", name, n, s, n / s, octets / s }'
+}
+
+# timed NAME KIND COUNT [OCTETS OF A PIECE]
 timed() {
   rm -rf hub
   make_session "$2" "$3" > input
   local begin end
   begin=$(date +%s%N)
-  "$program" session < input > output
+  if [ $# -gt 3 ]; then in_pieces "$4" | "$program" session > output; else "$program" session < input > output; fi
   end=$(date +%s%N)
-  local accepted
-  accepted=$(grep -c '^250 Accepted' output)
-  awk -v name="$1" -v n="$accepted" -v octets="$(stat -c %s input)" -v ns=$((end - begin)) \
-    'BEGIN { s = ns / 1e9; printf "%-28s %8d %10.3f %12.1f %14.0f\n", name, n, s, n / s, octets / s }'
+  row "$1" $((end - begin)) "$(grep -c '^250 Accepted' output)"
 }
 
-printf '%-28s %8s %10s %12s %14s\n' load messages seconds messages/s octets/s
-timed "messages of 1 KiB" "$messages" 1024
-timed "one message of 1 MiB" 1 1040000
+# what writing the same octets once, and syncing them, takes
+copied() {
+  make_session "$2" 1 > input
+  local begin end
+  begin=$(date +%s%N)
+  dd if=input of=copy bs=1M conv=fsync status=none
+  end=$(date +%s%N)
+  row "$1" $((end - begin)) 0
+}
+
+printf '%-40s %8s %10s %12s %14s\n' load messages seconds messages/s octets/s
+timed "messages of 1 KiB" small "$messages"
+timed "a message of 1 MiB" large 1
+timed "a message of 1 MiB, 10,000 fields" fields 1
+copied "a copy of the same file, synced" fields
+for piece in 1 17 65536; do
+  timed "1 MiB of dot lines, in pieces of $piece" dots 1 "$piece"
+done

@@ -4,8 +4,9 @@
 mod status;
 mod transport;
 
-use crate::transport::transport;
-use plant_dev::{FilePlant, FilePlantFault};
+use crate::transport::{is_session, transport};
+use mail_names::Bytes;
+use plant_dev::{FilePlant, FilePlantFault, MemoryPlant, Plant};
 use port_io::{ReaderSource, StdClock, WriterSink};
 use std::alloc::AllocError;
 use std::process::ExitCode;
@@ -26,22 +27,24 @@ fn run(rt: &HostRuntime) -> Result<u8, AllocError> {
     for word in &words {
         texts.push(word.as_str())?;
     }
-    let mut plant = match FilePlant::new(rt.clone()?, alloc, "hub") {
-        Ok(plant) => plant,
-        Err(FilePlantFault::NoMemory) => return Ok(2),
-        Err(FilePlantFault::Failed { .. }) => return Ok(NO_FOLDER),
-    };
+    let words = texts.as_slice();
+    if !is_session(words) {
+        // Words that are no command leave the disk as it was.
+        return run_over(rt, words, &mut MemoryPlant::new(alloc, Bytes::new(alloc)));
+    }
+    match FilePlant::new(rt.clone()?, alloc, "hub") {
+        Ok(mut plant) => run_over(rt, words, &mut plant),
+        Err(FilePlantFault::NoMemory) => Ok(2),
+        Err(FilePlantFault::Failed { .. }) => Ok(NO_FOLDER),
+    }
+}
+
+// Runs over this plant, with the program's own input, output and clock.
+fn run_over<P: Plant>(rt: &HostRuntime, words: &[&str], plant: &mut P) -> Result<u8, AllocError> {
     let mut source = ReaderSource::new(rt.reader());
     let mut sink = WriterSink::new(io::writer(rt));
     let mut clock = StdClock::new(rt.clone()?);
-    let status = transport(
-        alloc,
-        texts.as_slice(),
-        &mut source,
-        &mut sink,
-        &mut plant,
-        &mut clock,
-    );
+    let status = transport(rt.alloc(), words, &mut source, &mut sink, plant, &mut clock);
     Ok(status.code())
 }
 

@@ -130,7 +130,8 @@ fn run_session<P: Plant, S: Source, K: Sink, C: Clock>(
     }
 }
 
-fn is_session(words: &[&str]) -> bool
+/// Whether the words are the command `session`.
+pub fn is_session(words: &[&str]) -> bool
     ensures { result ≡ is_session (map (λ word. word.now) words.now) }
 {
     match words {
