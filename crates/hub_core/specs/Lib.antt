@@ -1,3 +1,4 @@
 pub mod Release
 pub mod Standing
 pub mod Items
+pub mod Repeats

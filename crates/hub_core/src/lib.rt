@@ -2,9 +2,11 @@
 #![tactic(auto)]
 
 mod command;
+mod digest;
 mod live;
 mod queue;
 mod release;
+mod remembered;
 mod state;
 
 pub use command::{Command, Reply, StepFault};

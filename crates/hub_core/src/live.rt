@@ -12,13 +12,16 @@ pub struct Live {
     pub categorised: bool,
 }
 
-fn is_repeat(live: &Live, submission: &Submission) -> bool
+/// Whether the submission is this one, sent again.
+pub fn is_repeat(live: &Live, submission: &Submission) -> bool
     ensures { result ≡ same_submission live.now.submission submission.now }
 {
     live.submission.same(submission)
 }
 
-/// The place of the first submission that this one repeats.
+/// The place of the first submission that this one repeats, by a look at each of them.
+///
+/// It is what the definition says, step by step. `Remembered::place_of_same` answers the same by its index.
 pub fn place_of_same(lives: &[Live], submission: &Submission) -> Option<usize>
     ensures { result ≡ place_of_same submission.now lives.now }
 {

@@ -5,8 +5,9 @@ ghost use Rattle.mail_names.specs.declared.name.Mark.TheVariants as marks;
 ghost use Rattle.hub_core.specs.declared.queue.QueuedItem.{QueuedItem};
 ghost use Rattle.hub_core.specs.Standing.{start, state_after, is_lawful, is_release, are_named, use_texts, are_distinct, number_at, uncategorised_of, reply_submit, reply_to, now_of, is_named, same_name, place_of_same};
 
-use crate::live::{Live, is_uncategorised, mark, place_of_same, uncategorised};
+use crate::live::{Live, is_uncategorised, uncategorised};
 use crate::queue::{QueuedItem, find, is_waiting, mark_number, names_of, queued_all, take_out};
+use crate::remembered::Remembered;
 use crate::{Command, Reply, StepFault};
 use mail_names::{Bytes, ItemName, NoMemory};
 use mail_plan::{Entry, Item, Release, Submission};
@@ -21,7 +22,7 @@ const LAST_MOMENT: u64 = 253_402_300_799;
 #[derive(Drop)]
 pub struct State {
     moment: u64,
-    live: Vec<Live>,
+    live: Remembered,
     waiting: VecDeque<QueuedItem>,
 }
 
@@ -31,7 +32,7 @@ impl Model for State {
 
     ghost Value = { Standing };
 
-    ghost view = { λ s. record { moment = s.moment; live = s.live.items; waiting = s.waiting.items } };
+    ghost view = { λ s. record { moment = s.moment; live = s.live; waiting = s.waiting.items } };
 
     ghost invariant = { λ s. s.moment ≤ 253402300799 };
 }
@@ -107,7 +108,7 @@ impl State {
     {
         State {
             moment: 0,
-            live: Vec::new(alloc),
+            live: Remembered::new(alloc),
             waiting: VecDeque::new(alloc),
         }
     }
@@ -132,28 +133,28 @@ impl State {
     pub fn live(&self) -> &[Live]
         ensures { result.now ≡ self.now.live }
     {
-        &self.live
+        self.live.as_slice()
     }
 
     /// The submission at this place (its number less 1), if it waits to be categorised.
     pub fn uncategorised(&self, place: usize) -> Option<&Submission>
         ensures { option_copied result ≡ uncategorised_of (slice_get self.now.live place) }
     {
-        uncategorised(&self.live, place)
+        uncategorised(self.live.as_slice(), place)
     }
 
     /// The number that the next new submission gets.
     pub fn next_number(&self) -> u64
         ensures { result ≡ length self.now.live + 1 }
     {
-        self.live.len() as u64 + 1
+        self.live.as_slice().len() as u64 + 1
     }
 
     /// The number of the submission that this one repeats, if it repeats one.
     pub fn repeat_of(&self, submission: &Submission) -> Option<u64>
         ensures { result ≡ number_at (place_of_same submission.now self.now.live) }
     {
-        match place_of_same(&self.live, submission) {
+        match self.live.place_of_same(submission) {
             Some(place) => Some(place as u64 + 1),
             None => None,
         }
@@ -202,13 +203,13 @@ impl State {
     fn judge_submit(&self, submission: &Submission) -> Reply
         ensures { result ≡ reply_submit self.now (place_of_same submission.now self.now.live) }
     {
-        match place_of_same(&self.live, submission) {
+        match self.live.place_of_same(submission) {
             Some(place) => Reply::Accepted {
                 number: place as u64 + 1,
                 repeat: true,
             },
             None => Reply::Accepted {
-                number: self.live.len() as u64 + 1,
+                number: self.live.as_slice().len() as u64 + 1,
                 repeat: false,
             },
         }
@@ -220,7 +221,7 @@ impl State {
         if release != 0 || number == 0 {
             return Reply::Unknown;
         }
-        match self.live.get((number - 1) as usize) {
+        match self.live.as_slice().get((number - 1) as usize) {
             None => Reply::Unknown,
             Some(live) if live.categorised => Reply::Already,
             Some(_) => Reply::Committed,
@@ -234,7 +235,7 @@ impl State {
             Entry::Accepted { moment, submission } => {
                 self.moment <= *moment
                     && *moment <= LAST_MOMENT
-                    && place_of_same(&self.live, submission).is_none()
+                    && self.live.place_of_same(submission).is_none()
             }
             Entry::Categorised {
                 number,
@@ -243,7 +244,7 @@ impl State {
             } => {
                 *release == 0
                     && *number >= 1
-                    && is_uncategorised(&self.live, (*number - 1) as usize)
+                    && is_uncategorised(self.live.as_slice(), (*number - 1) as usize)
                     && is_release(*number, *release, plan)
             }
             Entry::Moment { moment } => self.moment <= *moment && *moment <= LAST_MOMENT,
@@ -264,11 +265,7 @@ impl State {
         }
         match entry {
             Entry::Accepted { moment, submission } => {
-                let live = Live {
-                    submission,
-                    categorised: false,
-                };
-                self.live.push(live).map_err(|_| StepFault::NoMemory)?;
+                self.live.push(submission).map_err(|_| StepFault::NoMemory)?;
                 self.moment = moment;
             }
             Entry::Categorised { number, plan, .. } => {
@@ -276,7 +273,7 @@ impl State {
                 self.waiting
                     .append(&mut items)
                     .map_err(|_| StepFault::NoMemory)?;
-                mark(&mut self.live, (number - 1) as usize);
+                self.live.mark((number - 1) as usize);
             }
             Entry::Moment { moment } => self.moment = moment,
             Entry::Delivered { name } => take_out(&mut self.waiting, &name),

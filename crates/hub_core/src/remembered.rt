@@ -1,0 +1,137 @@
+// The submissions that the hub remembers, with an index of them.
+ghost use Rattle.std.specs.Prelude.{◌≡◌, ◌<◌, ◌^◌, ◌++◌, ◌∷◌, [], ℕ, List, false, Some, IfSome, OnOk, OnErr, slice_get};
+ghost use Rattle.hub_core.specs.Standing.{place_of_same, mark};
+ghost use Rattle.hub_core.specs.Repeats.{digest_of, is_digest, found_or, place_at, repeats_at, IsIndex};
+
+use crate::digest::digest_of;
+use crate::live::{Live, is_repeat, mark, place_of_same};
+use mail_names::NoMemory;
+use mail_plan::Submission;
+use std::alloc::Global;
+use std::collections::BTreeMap;
+use std::marker::Model;
+
+/// The submissions that were accepted, in order. Contracts see them as their list.
+///
+/// `index` has the place of the first submission of each digest. So a look-up takes one pass over the message and a
+/// search in a tree. It scans them all only where two different submissions have one SHA-256 digest.
+#[derive(Drop)]
+pub struct Remembered {
+    lives: Vec<Live>,
+    index: BTreeMap<[u8; 32], usize>,
+}
+
+impl Model for Remembered {
+    ghost use Rattle.std.specs.Prelude.{List};
+    ghost use Rattle.hub_core.specs.declared.live.Live.{Live};
+    ghost use Rattle.hub_core.specs.Repeats.{IsIndex};
+
+    ghost Value = { List Live };
+
+    ghost view = { λ r. r.lives.items };
+
+    ghost invariant = { λ r. IsIndex r.index r.lives.items };
+}
+
+// Puts the place under its digest, unless one stands there.
+fn note(
+    index: &mut BTreeMap<[u8; 32], usize>,
+    digest: Option<[u8; 32]>,
+    place: usize,
+) -> Result<(), NoMemory>
+    ensures ok { OnOk result ((other : List ℕ) → place_at index.new other ≡ found_or (place_at index.old other) (is_digest other digest) place) }
+    ensures err { OnErr result (index.new.entries ≡ index.old.entries) }
+{
+    let Some(digest) = digest else {
+        return Ok(());
+    };
+    if !index.contains_key(&digest) {
+        index.insert(digest, place)?;
+    }
+    Ok(())
+}
+
+fn repeats_at(lives: &[Live], place: usize, submission: &Submission) -> bool
+    ensures { result ≡ repeats_at (slice_get lives.now place) submission.now }
+{
+    match lives.get(place) {
+        None => false,
+        Some(live) => is_repeat(live, submission),
+    }
+}
+
+// The place of the first submission that this one, of this digest, repeats.
+fn place_by(
+    lives: &[Live],
+    index: &BTreeMap<[u8; 32], usize>,
+    digest: &[u8; 32],
+    submission: &Submission,
+) -> Option<usize>
+    requires indexed { IsIndex index.now lives.now }
+    requires own { digest_of submission.now ≡ Some digest.now }
+    ensures { result ≡ place_of_same submission.now lives.now }
+{
+    match index.get(digest) {
+        None => None,
+        Some(place) => {
+            if repeats_at(lives, *place, submission) {
+                Some(*place)
+            } else {
+                place_of_same(lives, submission)
+            }
+        }
+    }
+}
+
+impl Remembered {
+    pub fn new(alloc: Global) -> Remembered
+        ensures { result ≡ [] }
+    {
+        Remembered {
+            lives: Vec::new(alloc),
+            index: BTreeMap::new(alloc),
+        }
+    }
+
+    pub fn as_slice(&self) -> &[Live]
+        ensures { result.now ≡ self.now }
+    {
+        &self.lives
+    }
+
+    /// The place of the first submission that this one repeats.
+    pub fn place_of_same(&self, submission: &Submission) -> Option<usize>
+        ensures value { result ≡ place_of_same submission.now self.now }
+        ensures small { IfSome result (λ place. place < 2 ^ 63) }
+    {
+        match digest_of(submission) {
+            None => None,
+            Some(digest) => place_by(&self.lives, &self.index, &digest, submission),
+        }
+    }
+
+    /// Puts a submission behind the others. After an error they are as they were.
+    pub fn push(&mut self, submission: Submission) -> Result<(), NoMemory>
+        ensures ok { OnOk result (self.new ≡ self.old ++ (record { submission = submission; categorised = false }) ∷ []) }
+        ensures err { OnErr result (self.new ≡ self.old) }
+    {
+        let digest = digest_of(&submission);
+        let place = self.lives.len();
+        self.lives.push(Live {
+            submission,
+            categorised: false,
+        })?;
+        if let Err(fault) = note(&mut self.index, digest, place) {
+            self.lives.pop();
+            return Err(fault);
+        }
+        Ok(())
+    }
+
+    /// The submission at this place is categorised now.
+    pub fn mark(&mut self, place: usize)
+        ensures { self.new ≡ mark place self.old }
+    {
+        mark(&mut self.lives, place);
+    }
+}
