@@ -8,6 +8,7 @@ use Rattle.mail_plan.specs.declared.entry.Entry.{Entry}
 use Rattle.mail_plan.specs.declared.entry.Entry.TheVariants as entries
 use Rattle.hub_core.specs.declared.queue.QueuedItem.{QueuedItem}
 use Rattle.hub_core.specs.Release.{release_of}
+use Rattle.hub_core.specs.declared.limits.Limits.{Limits}
 use Rattle.hub_core.specs.Standing.{Standing, start, standing, state_after, is_named, without, queued_all}
 use Rattle.hub_core.specs.Items.{accepted, items_of, items, Among, CarriesRelease, IsStep, AreSteps, IsHistory}
 
@@ -64,19 +65,19 @@ accepted-push (entries.Moment m ∷ h) e = accepted-push h e
 accepted-push (entries.Delivered n ∷ h) e = accepted-push h e
 
 -- what waits is prescribed
-abbrev Fine : List Entry → Type 0
-Fine h = (x : QueuedItem) → Among x (standing h).waiting → Among x (items h)
+abbrev Fine : Limits → List Entry → Type 0
+Fine limits h = (x : QueuedItem) → Among x (standing limits h).waiting → Among x (items h)
 
 -- what is prescribed stays so
 pub older : (h : List Entry) (e : Entry) (x : QueuedItem) → Among x (items h) → Among x (items (h ++ e ∷ []))
 older h e x a = subst (λ (ss : List Submitted). Among x (items_of 1 ss)) (sym (accepted-push h e)) (more_items x 1 (accepted h) (accepted (e ∷ [])) a)
 
-step_waiting : (h : List Entry) (e : Entry) → CarriesRelease h e → Fine h → (x : QueuedItem) → Among x (state_after (standing h) e).waiting → Among x (items (h ++ e ∷ []))
-step_waiting h (entries.Accepted m s) c fine x a = older h (entries.Accepted m s) x (fine x a)
-step_waiting h (entries.Moment m) c fine x a = older h (entries.Moment m) x (fine x a)
-step_waiting h (entries.Delivered n) c fine x a = older h (entries.Delivered n) x (fine x (among_without n x (standing h).waiting a))
-step_waiting h (entries.Categorised n r p) c fine x a =
-    elim (among_either x (standing h).waiting (queued_all p) a) [
+step_waiting : (limits : Limits) (h : List Entry) (e : Entry) → CarriesRelease h e → Fine limits h → (x : QueuedItem) → Among x (state_after (standing limits h) e).waiting → Among x (items (h ++ e ∷ []))
+step_waiting limits h (entries.Accepted m s) c fine x a = older h (entries.Accepted m s) x (fine x a)
+step_waiting limits h (entries.Moment m) c fine x a = older h (entries.Moment m) x (fine x a)
+step_waiting limits h (entries.Delivered n) c fine x a = older h (entries.Delivered n) x (fine x (among_without n x (standing limits h).waiting a))
+step_waiting limits h (entries.Categorised n r p) c fine x a =
+    elim (among_either x (standing limits h).waiting (queued_all p) a) [
       | inl old ↦ older h (entries.Categorised n r p) x (fine x old)
       | inr new ↦ older h (entries.Categorised n r p) x
           (let at : n ≡ 1 + (n - 1) = (let some = c.1 in omega arith) in
@@ -84,18 +85,18 @@ step_waiting h (entries.Categorised n r p) c fine x a =
           (subst (λ (m : ℕ). Among x (queued_all (release_of m c.0))) at (subst (λ (r : _). Among x (queued_all r)) c.3 new)))
     ]
 
-step : (h : List Entry) (e : Entry) → CarriesRelease h e → Fine h → Fine (h ++ e ∷ [])
-step h e c fine x a =
-    step_waiting h e c fine x (subst (λ (s : Standing). Among x s.waiting) (fold-append state_after start h (e ∷ [])) a)
+step : (limits : Limits) (h : List Entry) (e : Entry) → CarriesRelease h e → Fine limits h → Fine limits (h ++ e ∷ [])
+step limits h e c fine x a =
+    step_waiting limits h e c fine x (subst (λ (s : Standing). Among x s.waiting) (fold-append state_after (start limits) h (e ∷ [])) a)
 
-steps : (before h : List Entry) → AreSteps before h → Fine before → Fine (before ++ h)
-steps before [] c fine = subst (λ (h : List Entry). Fine h) (sym (append-nil before)) fine
-steps before (e ∷ h) c fine =
-    subst (λ (all : List Entry). Fine all) (append_assoc before (e ∷ []) h) (steps (before ++ e ∷ []) h c.1 (step before e c.0.1 fine))
+steps : (limits : Limits) (before h : List Entry) → AreSteps limits before h → Fine limits before → Fine limits (before ++ h)
+steps limits before [] c fine = subst (λ (h : List Entry). Fine limits h) (sym (append-nil before)) fine
+steps limits before (e ∷ h) c fine =
+    subst (λ (all : List Entry). Fine limits all) (append_assoc before (e ∷ []) h) (steps limits (before ++ e ∷ []) h c.1 (step limits before e c.0.1 fine))
 
 -- what waits is prescribed
-pub prescribed : (h : List Entry) → IsHistory h → (x : QueuedItem) → Among x (standing h).waiting → Among x (items h)
-prescribed h c = steps [] h c (λ x a. absurd a)
+pub prescribed : (limits : Limits) (h : List Entry) → IsHistory limits h → (x : QueuedItem) → Among x (standing limits h).waiting → Among x (items h)
+prescribed limits h c = steps limits [] h c (λ x a. absurd a)
 
 pub accepted-cons : (e : Entry) (h : List Entry) → accepted (e ∷ []) ++ accepted h ≡ accepted (e ∷ h)
 accepted-cons (entries.Accepted m s) h = refl
@@ -103,15 +104,15 @@ accepted-cons (entries.Categorised n r p) h = refl
 accepted-cons (entries.Moment m) h = refl
 accepted-cons (entries.Delivered n) h = refl
 
-push : (before h : List Entry) (e : Entry) → AreSteps before h → IsStep (before ++ h) e → AreSteps before (h ++ e ∷ [])
-push before [] e c one = (subst (λ (all : List Entry). IsStep all e) (append-nil before) one, tt)
-push before (x ∷ h) e c one =
-    (c.0, push (before ++ x ∷ []) h e c.1 (subst (λ (all : List Entry). IsStep all e) (sym (append_assoc before (x ∷ []) h)) one))
+push : (limits : Limits) (before h : List Entry) (e : Entry) → AreSteps limits before h → IsStep limits (before ++ h) e → AreSteps limits before (h ++ e ∷ [])
+push limits before [] e c one = (subst (λ (all : List Entry). IsStep limits all e) (append-nil before) one, tt)
+push limits before (x ∷ h) e c one =
+    (c.0, push limits (before ++ x ∷ []) h e c.1 (subst (λ (all : List Entry). IsStep limits all e) (sym (append_assoc before (x ∷ []) h)) one))
 
 -- a history with one entry more
-pub history-push : (h : List Entry) (e : Entry) → IsHistory h → IsStep h e → IsHistory (h ++ e ∷ [])
-history-push h e c one = push [] h e c one
+pub history-push : (limits : Limits) (h : List Entry) (e : Entry) → IsHistory limits h → IsStep limits h e → IsHistory limits (h ++ e ∷ [])
+history-push limits h e c one = push limits [] h e c one
 
 -- the state of a history with one entry more
-pub standing-push : (h : List Entry) (e : Entry) → standing (h ++ e ∷ []) ≡ state_after (standing h) e
-standing-push h e = fold-append state_after start h (e ∷ [])
+pub standing-push : (limits : Limits) (h : List Entry) (e : Entry) → standing limits (h ++ e ∷ []) ≡ state_after (standing limits h) e
+standing-push limits h e = fold-append state_after (start limits) h (e ∷ [])

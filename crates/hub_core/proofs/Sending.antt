@@ -11,6 +11,7 @@ use Rattle.mail_plan.specs.declared.entry.Entry.{Entry}
 use Rattle.mail_plan.specs.declared.entry.Entry.TheVariants as entries
 use Rattle.hub_core.specs.declared.queue.QueuedItem.{QueuedItem}
 use Rattle.hub_core.specs.declared.live.Live.{Live}
+use Rattle.hub_core.specs.declared.limits.Limits.{Limits}
 use Rattle.hub_core.specs.Standing.{Standing, start, standing, state_after, mark, mark_at, mark_number, same_name, is_named, is_uncategorised, uncategorised_of}
 use Rattle.hub_core.specs.Items.{accepted, Among}
 use Rattle.hub_core.proofs.Prescribed.{accepted-cons}
@@ -41,8 +42,8 @@ after_all : (s : Standing) (h : List Entry) → submissions (fold state_after s 
 after_all s [] = sym (append-nil (submissions s.live))
 after_all s (e ∷ h) = after_all (state_after s e) h ∙ ap (λ front. front ++ accepted h) (after_one s e) ∙ append_assoc (submissions s.live) (accepted (e ∷ [])) (accepted h) ∙ ap (λ rest. submissions s.live ++ rest) (accepted-cons e h)
 
-pub live_accepted : (h : List Entry) → submissions (standing h).live ≡ accepted h
-live_accepted h = after_all start h
+pub live_accepted : (limits : Limits) (h : List Entry) → submissions (standing limits h).live ≡ accepted h
+live_accepted limits h = after_all (start limits) h
 
 first : (p : QueuedItem → Bool) (y : QueuedItem) (ys : List QueuedItem) (x : QueuedItem) (b : Bool) → p y ≡ b → cond b (Some y) (find p ys) ≡ Some x →
     (find p ys ≡ Some x → Among x ys × (p x ≡ true)) → Among x (y ∷ ys) × (p x ≡ true)
@@ -109,7 +110,7 @@ pub uncategorised_waits : (o : Option Live) (s : Submitted) → uncategorised_of
 uncategorised_waits o s h = (waits o s h).0
 
 -- it was accepted, at its place
-pub accepted_at : (h : List Entry) (place : ℕ) (s : Submitted) → uncategorised_of (slice_get (standing h).live place) ≡ Some s → slice_get (accepted h) place ≡ Some s
-accepted_at h place s e =
-    ap (λ (ss : List Submitted). slice_get ss place) (sym (live_accepted h))
-    ∙ slice_get-map (λ (l : Live). l.submission) (standing h).live place ∙ (waits (slice_get (standing h).live place) s e).1
+pub accepted_at : (limits : Limits) (h : List Entry) (place : ℕ) (s : Submitted) → uncategorised_of (slice_get (standing limits h).live place) ≡ Some s → slice_get (accepted h) place ≡ Some s
+accepted_at limits h place s e =
+    ap (λ (ss : List Submitted). slice_get ss place) (sym (live_accepted limits h))
+    ∙ slice_get-map (λ (l : Live). l.submission) (standing limits h).live place ∙ (waits (slice_get (standing limits h).live place) s e).1

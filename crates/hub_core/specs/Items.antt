@@ -6,6 +6,7 @@ use Rattle.mail_plan.specs.declared.entry.Entry.{Entry}
 use Rattle.mail_plan.specs.declared.entry.Entry.TheVariants as entries
 use Rattle.hub_core.specs.declared.queue.QueuedItem.{QueuedItem}
 use Rattle.hub_core.specs.Release.{release_of}
+use Rattle.hub_core.specs.declared.limits.Limits.{Limits}
 use Rattle.hub_core.specs.Standing.{standing, is_lawful, queued_all}
 
 -- the submissions that were accepted, in order
@@ -47,14 +48,14 @@ CarriesRelease before (entries.Moment moment) = Unit {0}
 CarriesRelease before (entries.Delivered name) = Unit {0}
 
 -- An entry can stand behind this history.
-abbrev pub IsStep : List Entry → Entry → Type 0
-IsStep before entry = (is_lawful (standing before) entry ≡ true) × CarriesRelease before entry
+abbrev pub IsStep : Limits → List Entry → Entry → Type 0
+IsStep limits before entry = (is_lawful (standing limits before) entry ≡ true) × CarriesRelease before entry
 
 -- Each of these entries can stand behind those before it.
-abbrev pub AreSteps : List Entry → List Entry → Type 0
-AreSteps before [] = Unit {0}
-AreSteps before (entry ∷ entries) = IsStep before entry × AreSteps (before ++ entry ∷ []) entries
+abbrev pub AreSteps : Limits → List Entry → List Entry → Type 0
+AreSteps limits before [] = Unit {0}
+AreSteps limits before (entry ∷ entries) = IsStep limits before entry × AreSteps limits (before ++ entry ∷ []) entries
 
--- a list of entries, each lawful after those before it, in which each release is the one that is prescribed
-abbrev pub IsHistory : List Entry → Type 0
-IsHistory history = AreSteps [] history
+-- a list of entries, each lawful after those before it under these limits, in which each release is the one that is prescribed
+abbrev pub IsHistory : Limits → List Entry → Type 0
+IsHistory limits history = AreSteps limits [] history

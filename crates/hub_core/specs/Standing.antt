@@ -11,19 +11,25 @@ use Rattle.mail_plan.specs.declared.entry.Entry.{Entry}
 use Rattle.mail_plan.specs.declared.entry.Entry.TheVariants as entries
 use Rattle.hub_core.specs.declared.queue.QueuedItem.{QueuedItem}
 use Rattle.hub_core.specs.declared.live.Live.{Live}
+use Rattle.hub_core.specs.declared.limits.Limits.{Limits}
 use Rattle.hub_core.specs.declared.command.Command.{Command}
 use Rattle.hub_core.specs.declared.command.Command.TheVariants as commands
 use Rattle.hub_core.specs.declared.command.Reply.{Reply}
 use Rattle.hub_core.specs.declared.command.Reply.TheVariants as replies
 
--- what is kept of a history: its greatest moment, its submissions, and the items that wait
+-- what is kept of a history: the limits that it is held to, its greatest moment, its submissions, and the items that wait
 pub record Standing : Type 0 where
+  pub limits : Limits
   pub moment : ℕ
   pub live : List Live
   pub waiting : List QueuedItem
 
-abbrev pub start : Standing
-start = record { moment = 0; live = []; waiting = [] }
+abbrev pub start : Limits → Standing
+start limits = record { limits = limits; moment = 0; live = []; waiting = [] }
+
+-- the limits of the program
+abbrev pub usual : Limits
+usual = record { log = 1099511627776; live = 100000; bytes = 2147483648 }
 
 -- 9999-12-31T23:59:59Z
 abbrev pub last_moment : ℕ
@@ -91,9 +97,20 @@ state_after s (entries.Categorised number release plan) =
 state_after s (entries.Moment moment) = record s { moment = moment }
 state_after s (entries.Delivered name) = record s { waiting = without name s.waiting }
 
--- the state of a history
-abbrev pub standing : List Entry → Standing
-standing history = fold state_after start history
+-- the state of a history under these limits
+abbrev pub standing : Limits → List Entry → Standing
+standing limits history = fold state_after (start limits) history
+
+-- the octets of the messages that are remembered
+abbrev pub live_bytes : List Live → ℕ
+live_bytes [] = 0
+live_bytes (live ∷ lives) = length live.submission.bytes + live_bytes lives
+
+-- The limits leave room for one submission more, and its number isn't the greatest u64.
+abbrev pub has_room : Standing → Submitted → Bool
+has_room s submission =
+    nat_lt (length s.live) s.limits.live
+    && (nat_le (live_bytes s.live + length submission.bytes) s.limits.bytes && nat_lt (length s.live + 1) 18446744073709551615)
 
 -- a moment that isn't before the last, nor past the year 9999
 abbrev pub is_moment : Standing → ℕ → Bool
@@ -125,7 +142,8 @@ is_release number release plan =
 
 -- whether an entry can stand behind a history of this state
 abbrev pub is_lawful : Standing → Entry → Bool
-is_lawful s (entries.Accepted moment submission) = is_moment s moment && not (is_some (place_of_same submission s.live))
+is_lawful s (entries.Accepted moment submission) =
+    is_moment s moment && (not (is_some (place_of_same submission s.live)) && has_room s submission)
 is_lawful s (entries.Categorised number release plan) =
     (release == 0)
     && (nat_le 1 number && (is_uncategorised (slice_get s.live (number - 1)) && is_release number release plan))
@@ -137,9 +155,15 @@ abbrev pub number_at : Option ℕ → Option ℕ
 number_at None = None
 number_at (Some place) = Some (place + 1)
 
-abbrev pub reply_submit : Standing → Option ℕ → Reply
-reply_submit s (Some place) = replies.Accepted (place + 1) true
-reply_submit s None = replies.Accepted (length s.live + 1) false
+abbrev pub reply_new : Standing → Submitted → Reply
+reply_new s submission =
+    if has_room s submission then replies.Accepted (length s.live + 1) false
+    else replies.QueueFull (length s.live) (live_bytes s.live)
+
+-- A repeat is known before the limits are looked at.
+abbrev pub reply_submit : Standing → Submitted → Option ℕ → Reply
+reply_submit s submission (Some place) = replies.Accepted (place + 1) true
+reply_submit s submission None = reply_new s submission
 
 abbrev pub reply_commit : Option Live → Reply
 reply_commit None = replies.Unknown
@@ -147,7 +171,7 @@ reply_commit (Some live) = if live.categorised then replies.Already else replies
 
 -- what is answered to a command
 abbrev pub reply_to : Standing → Command → Reply
-reply_to s (commands.Submit submission clock) = reply_submit s (place_of_same submission s.live)
+reply_to s (commands.Submit submission clock) = reply_submit s submission (place_of_same submission s.live)
 reply_to s (commands.Commit number release) =
     if (release == 0) && nat_le 1 number then reply_commit (slice_get s.live (number - 1)) else replies.Unknown
 reply_to s (commands.Moment clock) = replies.Done

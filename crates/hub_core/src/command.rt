@@ -15,6 +15,8 @@ pub enum Command {
 #[derive(Clone, Copy, Debug, PartialEq, Eq)]
 pub enum Reply {
     Accepted { number: u64, repeat: bool },
+    /// So many submissions, and so many octets of their messages, are remembered.
+    QueueFull { live: u64, bytes: u64 },
     Committed,
     /// The release is categorised already.
     Already,

@@ -3,6 +3,7 @@
 
 mod command;
 mod digest;
+mod limits;
 mod live;
 mod queue;
 mod release;
@@ -10,6 +11,7 @@ mod remembered;
 mod state;
 
 pub use command::{Command, Reply, StepFault};
+pub use limits::Limits;
 pub use live::Live;
 pub use queue::{QueuedItem, SharedBytes};
 pub use release::plan;

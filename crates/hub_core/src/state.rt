@@ -3,8 +3,10 @@ ghost use Rattle.std.specs.Prelude.{◌≡◌, ◌+◌, ◌<◌, ◌≤◌, ◌^
 ghost use Rattle.std.specs.List.{list_any};
 ghost use Rattle.mail_names.specs.declared.name.Mark.TheVariants as marks;
 ghost use Rattle.hub_core.specs.declared.queue.QueuedItem.{QueuedItem};
-ghost use Rattle.hub_core.specs.Standing.{start, state_after, is_lawful, is_release, are_named, use_texts, are_distinct, number_at, uncategorised_of, reply_submit, reply_to, now_of, is_named, same_name, place_of_same};
+ghost use Rattle.hub_core.specs.declared.limits.Limits.{Limits};
+ghost use Rattle.hub_core.specs.Standing.{start, state_after, has_room, live_bytes, reply_new, is_lawful, is_release, are_named, use_texts, are_distinct, number_at, uncategorised_of, reply_submit, reply_to, now_of, is_named, same_name, place_of_same};
 
+use crate::limits::Limits;
 use crate::live::{Live, is_uncategorised, uncategorised};
 use crate::queue::{QueuedItem, find, is_waiting, mark_number, names_of, queued_all, take_out};
 use crate::remembered::Remembered;
@@ -18,23 +20,26 @@ use std::marker::Model;
 /// 9999-12-31T23:59:59Z.
 const LAST_MOMENT: u64 = 253_402_300_799;
 
-/// The state of the hub: its last moment, the submissions that it remembers, and the items that wait.
+/// The state of the hub: its limits, its last moment, the submissions that it remembers with the octets of their
+/// messages, and the items that wait.
 #[derive(Drop)]
 pub struct State {
+    limits: Limits,
     moment: u64,
     live: Remembered,
+    bytes: u64,
     waiting: VecDeque<QueuedItem>,
 }
 
 impl Model for State {
-    ghost use Rattle.hub_core.specs.Standing.{Standing};
-    ghost use Rattle.std.specs.Prelude.{◌≤◌};
+    ghost use Rattle.hub_core.specs.Standing.{Standing, live_bytes};
+    ghost use Rattle.std.specs.Prelude.{◌≡◌, ◌≤◌};
 
     ghost Value = { Standing };
 
-    ghost view = { λ s. record { moment = s.moment; live = s.live; waiting = s.waiting.items } };
+    ghost view = { λ s. record { limits = s.limits; moment = s.moment; live = s.live; waiting = s.waiting.items } };
 
-    ghost invariant = { λ s. s.moment ≤ 253402300799 };
+    ghost invariant = { λ s. (s.moment ≤ 253402300799) × (s.bytes ≡ live_bytes s.live) };
 }
 
 fn has_name(item: &Item, number: u64, release: u32, place: usize) -> bool
@@ -102,13 +107,15 @@ fn is_release(number: u64, release: u32, plan: &Release) -> bool
 }
 
 impl State {
-    /// The state of the empty history.
-    pub fn start(alloc: Global) -> State
-        ensures { result ≡ start }
+    /// The state of the empty history under these limits.
+    pub fn start(alloc: Global, limits: Limits) -> State
+        ensures { result ≡ start limits }
     {
         State {
+            limits,
             moment: 0,
             live: Remembered::new(alloc),
+            bytes: 0,
             waiting: VecDeque::new(alloc),
         }
     }
@@ -141,6 +148,20 @@ impl State {
         ensures { option_copied result ≡ uncategorised_of (slice_get self.now.live place) }
     {
         uncategorised(self.live.as_slice(), place)
+    }
+
+    /// The limits that the hub is held to.
+    pub fn limits(&self) -> Limits
+        ensures { result ≡ self.now.limits }
+    {
+        self.limits
+    }
+
+    /// The octets of the messages that are remembered.
+    pub fn bytes(&self) -> u64
+        ensures { result ≡ live_bytes self.now.live }
+    {
+        self.bytes
     }
 
     /// The number that the next new submission gets.
@@ -201,18 +222,34 @@ impl State {
     }
 
     fn judge_submit(&self, submission: &Submission) -> Reply
-        ensures { result ≡ reply_submit self.now (place_of_same submission.now self.now.live) }
+        ensures { result ≡ reply_submit self.now submission.now (place_of_same submission.now self.now.live) }
     {
         match self.live.place_of_same(submission) {
             Some(place) => Reply::Accepted {
                 number: place as u64 + 1,
                 repeat: true,
             },
-            None => Reply::Accepted {
-                number: self.live.as_slice().len() as u64 + 1,
+            None if self.has_room(submission) => Reply::Accepted {
+                number: self.next_number(),
                 repeat: false,
             },
+            None => Reply::QueueFull {
+                live: self.live.as_slice().len() as u64,
+                bytes: self.bytes,
+            },
         }
+    }
+
+    /// Whether the limits leave room for this submission, if it repeats none.
+    pub fn has_room(&self, submission: &Submission) -> bool
+        ensures { result ≡ has_room self.now submission.now }
+    {
+        let live = self.live.as_slice().len() as u64;
+        let size = submission.bytes().len() as u64;
+        live < self.limits.live
+            && self.bytes <= self.limits.bytes
+            && size <= self.limits.bytes - self.bytes
+            && live + 1 < u64::MAX
     }
 
     fn judge_commit(&self, number: u64, release: u32) -> Reply
@@ -236,6 +273,7 @@ impl State {
                 self.moment <= *moment
                     && *moment <= LAST_MOMENT
                     && self.live.place_of_same(submission).is_none()
+                    && self.has_room(submission)
             }
             Entry::Categorised {
                 number,
@@ -265,7 +303,9 @@ impl State {
         }
         match entry {
             Entry::Accepted { moment, submission } => {
+                let size = submission.bytes().len() as u64;
                 self.live.push(submission).map_err(|_| StepFault::NoMemory)?;
+                self.bytes += size;
                 self.moment = moment;
             }
             Entry::Categorised { number, plan, .. } => {

@@ -1,6 +1,7 @@
 pub mod Numbers
 mod Standing
-mod Forms
+pub mod Forms
 mod Parts
 mod Made
+mod ByKind
 pub mod Printable

@@ -5,7 +5,6 @@ use Rattle.mail_message.specs.Message.{Mail}
 use Rattle.mail_message.specs.ReadOf.{read_of}
 use Rattle.mail_message.specs.declared.fault.MessageFault.{MessageFault}
 use Rattle.mail_plan.specs.declared.submission.Origin.{Origin}
-use Rattle.mail_plan.specs.declared.submission.SubmissionFault.{SubmissionFault}
 use Rattle.mail_plan.specs.declared.submission.SubmissionFault.TheVariants as faults
 use Rattle.mail_plan.specs.Submission.{Submitted, submission_read, submission_of}
 

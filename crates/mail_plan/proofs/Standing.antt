@@ -1,5 +1,5 @@
 -- Texts that stand one behind another.
-use Rattle.std.proofs.Common.{◌≡◌, ℕ, ◌+◌, ◌≤◌, List, [], ◌++◌, length, take, drop, refl, sym, ◌∙◌, ap, subst, arith, append_assoc, length-append}
+use Rattle.std.proofs.Common.{◌≡◌, ℕ, ◌+◌, ◌≤◌, List, [], ◌++◌, length, take, drop, refl, sym, ◌∙◌, ap, subst, arith, append_assoc, length-append, length-drop}
 use Rattle.std.proofs.lemmas.List.{take_at, drop_at, drop-drop, append-nil}
 use Rattle.mail_plan.specs.Reading.{Stands, OneForm}
 
@@ -65,3 +65,9 @@ behind_text a rest bytes at mid end got s = back a rest bytes at end s mid got.b
 pub same_last : {A : Type 0} (Is : A → Type 0) (form : A → List ℕ) (one : OneForm Is form) (a b : A) (bytes : List ℕ) (at mid end : ℕ) → Is a × Stands (form a) bytes at mid → Is b → Stands (form b) bytes at end → b ≡ a
 same_last Is form one a b bytes at mid end got is s =
     same Is form one a b [] bytes at mid end got is (subst (λ (t : List ℕ). Stands t bytes at end) (sym (append-nil (form b))) s)
+
+-- Nothing is behind a value that was read, where all of the bytes are a value's form.
+pub nothing_left : {A : Type 0} (Is : A → Type 0) (form : A → List ℕ) (one : OneForm Is form) (a b : A) (bytes : List ℕ) (end : ℕ) → Is a × Stands (form a) bytes 0 end → Is b → bytes ≡ form b → length bytes ≤ end
+nothing_left Is form one a b bytes end got is all =
+    let left : drop end bytes ≡ [] = (one a b (drop end bytes) [] got.0 is (sym got.1.there ∙ all ∙ sym (append-nil (form b)))).1 in
+    omega (arith, ap length left, length-drop end bytes)

@@ -54,8 +54,14 @@ pub record IsSubmission (s : Submitted) : Type 0 where
   pub bytes : IsBytes s.bytes
   pub made : submission_of s.origin s.reverse s.recipients s.bytes ≡ Ok s
 
+abbrev pub IsAccepted : ℕ × Submitted → Type 0
+IsAccepted accepted = IsU64 accepted.0 × IsSubmission accepted.1
+
+abbrev pub IsCategorised : ℕ × ℕ × Release → Type 0
+IsCategorised made = IsU64 made.0 × IsU32 made.1 × IsRelease made.2
+
 abbrev pub IsEntry : Entry → Type 0
-IsEntry (entries.Accepted moment submission) = IsU64 moment × IsSubmission submission
-IsEntry (entries.Categorised number release plan) = IsU64 number × IsU32 release × IsRelease plan
+IsEntry (entries.Accepted moment submission) = IsAccepted (moment, submission)
+IsEntry (entries.Categorised number release plan) = IsCategorised (number, release, plan)
 IsEntry (entries.Moment moment) = IsU64 moment
 IsEntry (entries.Delivered name) = IsName name

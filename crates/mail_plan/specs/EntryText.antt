@@ -59,9 +59,17 @@ abbrev pub form_submission : Submitted → List ℕ
 form_submission s =
     form_origin s.origin ++ (form_key_option s.reverse ++ (form_all form_bytes s.recipients ++ form_bytes s.bytes))
 
+-- what was accepted: its moment, and the submission
+abbrev pub form_accepted : ℕ × Submitted → List ℕ
+form_accepted accepted = le64 accepted.0 ++ form_submission accepted.1
+
+-- what was categorised: a submission's number, the number of its release, and the release
+abbrev pub form_categorised : ℕ × ℕ × Release → List ℕ
+form_categorised made = le64 made.0 ++ (le32 made.1 ++ form_release made.2)
+
 -- an entry: its kind, and its fields in order
 abbrev pub entry_text : Entry → List ℕ
-entry_text (entries.Accepted moment submission) = 2 ∷ (le64 moment ++ form_submission submission)
-entry_text (entries.Categorised number release plan) = 3 ∷ (le64 number ++ (le32 release ++ form_release plan))
+entry_text (entries.Accepted moment submission) = 2 ∷ form_accepted (moment, submission)
+entry_text (entries.Categorised number release plan) = 3 ∷ form_categorised (number, release, plan)
 entry_text (entries.Moment moment) = 5 ∷ le64 moment
 entry_text (entries.Delivered name) = 6 ∷ form_name name

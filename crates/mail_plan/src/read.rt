@@ -1,15 +1,15 @@
 // The bytes of entries in the log, read.
-ghost use Rattle.std.specs.Prelude.{◌≡◌, ⊤, IsOk};
+ghost use Rattle.std.specs.Prelude.{◌≡◌};
 ghost use Rattle.mail_names.specs.Key.{IsKey};
-ghost use Rattle.mail_plan.specs.EntryText.{form_bytes, form_key_option, form_all, form_name, form_release, form_origin, entry_text};
-ghost use Rattle.mail_plan.specs.Entries.{IsBytes, IsKeyOption, IsListOf, IsName, IsRelease, IsOrigin, IsEntry};
+ghost use Rattle.mail_plan.specs.EntryText.{form_bytes, form_key_option, form_all, form_name, form_release, form_origin, form_accepted, form_categorised, entry_text};
+ghost use Rattle.mail_plan.specs.Entries.{IsBytes, IsKeyOption, IsListOf, IsName, IsRelease, IsOrigin, IsAccepted, IsCategorised, IsEntry};
 ghost use Rattle.mail_plan.specs.Reading.{Reads, Finds, ReadsAll, found_of};
 
 use crate::fields::{
     bytes_at, key_at, key_option_at, list_at, name_at, origin_at, release_at, submission_at,
 };
 use crate::places::{Miss, byte_at, u32_at, u64_at};
-use crate::{Entry, Origin, Release};
+use crate::{Entry, Origin, Release, Submission};
 use mail_names::{Bytes, ItemName, Items, Key, NoMemory};
 use std::alloc::Global;
 
@@ -24,9 +24,141 @@ fn found<T: Drop>(read: Result<T, Miss>) -> Result<Option<T>, NoMemory>
     }
 }
 
-/// The bytes that stand at a place behind their count, and the place behind them.
+/// The bytes that stand at a place behind their count, and the place behind them. None where there is none.
 pub fn get_bytes(alloc: Global, bytes: &[u8], at: usize) -> Result<Option<(Bytes, usize)>, NoMemory>
     ensures { Finds IsBytes form_bytes bytes.now at result }
 {
     found(bytes_at(alloc, bytes, at))
+}
+
+/// The key that stands at a place as its bytes, in lower case, and the place behind it. None where there is none.
+pub fn get_key(alloc: Global, bytes: &[u8], at: usize) -> Result<Option<(Key, usize)>, NoMemory>
+    ensures { Finds IsKey form_bytes bytes.now at result }
+{
+    found(key_at(alloc, bytes, at))
+}
+
+/// The option that stands at a place: 0, or 1 and a key, and the place behind it. None where there is none.
+pub fn get_key_option(
+    alloc: Global,
+    bytes: &[u8],
+    at: usize,
+) -> Result<Option<(Option<Key>, usize)>, NoMemory>
+    ensures { Finds IsKeyOption form_key_option bytes.now at result }
+{
+    found(key_option_at(alloc, bytes, at))
+}
+
+/// The keys that stand at a place behind their count, and the place behind them. None where there is none.
+pub fn get_keys(
+    alloc: Global,
+    bytes: &[u8],
+    at: usize,
+) -> Result<Option<(Items<Key>, usize)>, NoMemory>
+    ensures { Finds (IsListOf IsKey) (form_all form_bytes) bytes.now at result }
+{
+    found(list_at(alloc, bytes, at))
+}
+
+/// The origin that stands at a place: 0 for SMTP, or 1 and the mark of a pickup file, and the place behind it. None where there is none.
+pub fn get_origin(
+    alloc: Global,
+    bytes: &[u8],
+    at: usize,
+) -> Result<Option<(Origin, usize)>, NoMemory>
+    ensures { Finds IsOrigin form_origin bytes.now at result }
+{
+    found(origin_at(alloc, bytes, at))
+}
+
+/// The name that stands at a place: its three numbers and its mark, and the place behind it. None where there is none.
+pub fn get_item_name(bytes: &[u8], at: usize) -> Result<Option<(ItemName, usize)>, NoMemory>
+    ensures { Finds IsName form_name bytes.now at result }
+{
+    found(name_at(bytes, at))
+}
+
+/// The release that stands at a place: its texts and its items, with no holds and no ends, and the place behind it. None where there is none.
+pub fn get_release(
+    alloc: Global,
+    bytes: &[u8],
+    at: usize,
+) -> Result<Option<(Release, usize)>, NoMemory>
+    ensures { Finds IsRelease form_release bytes.now at result }
+{
+    found(release_at(alloc, bytes, at))
+}
+
+// A moment and a submission.
+fn accepted_at(alloc: Global, bytes: &[u8], at: usize) -> Result<((u64, Submission), usize), Miss>
+    ensures { Reads IsAccepted form_accepted bytes.now at result }
+{
+    let (moment, at_submission) = u64_at(bytes, at)?;
+    let (submission, end) = submission_at(alloc, bytes, at_submission)?;
+    Ok(((moment, submission), end))
+}
+
+// A submission's number, the number of its release, and the release.
+fn categorised_at(
+    alloc: Global,
+    bytes: &[u8],
+    at: usize,
+) -> Result<((u64, u32, Release), usize), Miss>
+    ensures { Reads IsCategorised form_categorised bytes.now at result }
+{
+    let (number, at_release) = u64_at(bytes, at)?;
+    let (release, at_plan) = u32_at(bytes, at_release)?;
+    let (plan, end) = release_at(alloc, bytes, at_plan)?;
+    Ok(((number, release, plan), end))
+}
+
+fn entry_at(alloc: Global, bytes: &[u8], at: usize) -> Result<(Entry, usize), Miss>
+    ensures { Reads IsEntry entry_text bytes.now at result }
+{
+    let (kind, start) = byte_at(bytes, at)?;
+    match kind {
+        2 => {
+            let ((moment, submission), end) = accepted_at(alloc, bytes, start)?;
+            Ok((Entry::Accepted { moment, submission }, end))
+        }
+        3 => {
+            let ((number, release, plan), end) = categorised_at(alloc, bytes, start)?;
+            let entry = Entry::Categorised {
+                number,
+                release,
+                plan,
+            };
+            Ok((entry, end))
+        }
+        5 => {
+            let (moment, end) = u64_at(bytes, start)?;
+            Ok((Entry::Moment { moment }, end))
+        }
+        6 => {
+            let (name, end) = name_at(bytes, start)?;
+            Ok((Entry::Delivered { name }, end))
+        }
+        _ => Err(Miss::NoForm),
+    }
+}
+
+impl Entry {
+    /// The entry that these bytes are, all of them, or none where they are no entry's.
+    ///
+    /// A key of an entry is in lower case, and its submission one that `Submission::new` takes.
+    pub fn read(alloc: Global, payload: &[u8]) -> Result<Option<Entry>, NoMemory>
+        ensures { ReadsAll IsEntry entry_text payload.now result }
+    {
+        match entry_at(alloc, payload, 0) {
+            Ok((entry, end)) => {
+                if end < payload.len() {
+                    Ok(None)
+                } else {
+                    Ok(Some(entry))
+                }
+            }
+            Err(Miss::NoForm) => Ok(None),
+            Err(Miss::NoMemory) => Err(NoMemory),
+        }
+    }
 }

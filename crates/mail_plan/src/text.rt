@@ -1,5 +1,7 @@
 // The bytes of entries in the log, written.
 ghost use Rattle.std.specs.Prelude.{◌≡◌, ◌++◌, OnOk, IfOk, option_copied};
+ghost use Rattle.mail_names.specs.Key.{IsKey};
+ghost use Rattle.mail_plan.specs.Entries.{IsU32, IsBytes, IsKeyOption, IsListOf, IsName, IsItem, IsRelease, IsOrigin, IsSubmission, IsEntry};
 ghost use Rattle.mail_plan.specs.EntryText.{le32, le64, form_bytes, form_key_option, form_all, form_mark, form_name, form_item, form_release, form_origin, form_submission, entry_text};
 
 use crate::{Entry, Item, Origin, Release, Submission};
@@ -22,14 +24,16 @@ fn put_u32(into: &mut Bytes, value: u32) -> Result<(), NoMemory>
 
 // A list of 2^32 elements or more has no form.
 fn put_count(into: &mut Bytes, count: usize) -> Result<(), NoMemory>
-    ensures { OnOk result (into.new ≡ into.old ++ le32 count) }
+    ensures text { OnOk result (into.new ≡ into.old ++ le32 count) }
+    ensures fits { OnOk result (IsU32 count) }
 {
     let count = u32::try_from(count).map_err(|_| NoMemory)?;
     put_u32(into, count)
 }
 
 fn put_slice(into: &mut Bytes, value: &[u8]) -> Result<(), NoMemory>
-    ensures { OnOk result (into.new ≡ into.old ++ form_bytes value.now) }
+    ensures text { OnOk result (into.new ≡ into.old ++ form_bytes value.now) }
+    ensures fits { OnOk result (IsBytes value.now) }
 {
     put_u64(into, value.len() as u64)?;
     into.add(value)
@@ -37,21 +41,24 @@ fn put_slice(into: &mut Bytes, value: &[u8]) -> Result<(), NoMemory>
 
 /// Appends bytes: their count as a u64, and they.
 pub fn put_bytes(into: &mut Bytes, value: &Bytes) -> Result<(), NoMemory>
-    ensures { OnOk result (into.new ≡ into.old ++ form_bytes value.now) }
+    ensures text { OnOk result (into.new ≡ into.old ++ form_bytes value.now) }
+    ensures fits { OnOk result (IsBytes value.now) }
 {
     put_slice(into, value.as_slice())
 }
 
 /// Appends a key, as its bytes.
 pub fn put_key(into: &mut Bytes, value: &Key) -> Result<(), NoMemory>
-    ensures { OnOk result (into.new ≡ into.old ++ form_bytes value.now) }
+    ensures text { OnOk result (into.new ≡ into.old ++ form_bytes value.now) }
+    ensures fits { OnOk result (IsKey value.now) }
 {
     put_slice(into, value.bytes())
 }
 
 /// Appends 0, or 1 and the key.
 pub fn put_key_option(into: &mut Bytes, value: &Option<Key>) -> Result<(), NoMemory>
-    ensures { OnOk result (into.new ≡ into.old ++ form_key_option value.now) }
+    ensures text { OnOk result (into.new ≡ into.old ++ form_key_option value.now) }
+    ensures fits { OnOk result (IsKeyOption value.now) }
 {
     match value {
         None => into.add(&[0]),
@@ -64,7 +71,8 @@ pub fn put_key_option(into: &mut Bytes, value: &Option<Key>) -> Result<(), NoMem
 
 /// Appends the count of the keys as a u32, and the keys.
 pub fn put_keys(into: &mut Bytes, values: &[Key]) -> Result<(), NoMemory>
-    ensures { OnOk result (into.new ≡ into.old ++ form_all form_bytes values.now) }
+    ensures text { OnOk result (into.new ≡ into.old ++ form_all form_bytes values.now) }
+    ensures fits { OnOk result (IsListOf IsKey values.now) }
 {
     put_count(into, values.len())?;
     for value in values {
@@ -75,7 +83,8 @@ pub fn put_keys(into: &mut Bytes, values: &[Key]) -> Result<(), NoMemory>
 
 /// Appends 0 for SMTP, or 1 and the mark of the pickup file.
 pub fn put_origin(into: &mut Bytes, value: &Origin) -> Result<(), NoMemory>
-    ensures { OnOk result (into.new ≡ into.old ++ form_origin value.now) }
+    ensures text { OnOk result (into.new ≡ into.old ++ form_origin value.now) }
+    ensures fits { OnOk result (IsOrigin value.now) }
 {
     match value {
         Origin::Smtp => into.add(&[0]),
@@ -99,7 +108,8 @@ fn put_mark(into: &mut Bytes, value: Mark) -> Result<(), NoMemory>
 
 /// Appends the three numbers of the name and its mark.
 pub fn put_item_name(into: &mut Bytes, value: &ItemName) -> Result<(), NoMemory>
-    ensures { OnOk result (into.new ≡ into.old ++ form_name value.now) }
+    ensures text { OnOk result (into.new ≡ into.old ++ form_name value.now) }
+    ensures fits { OnOk result (IsName value.now) }
 {
     put_u64(into, value.submission)?;
     put_u32(into, value.release)?;
@@ -108,7 +118,8 @@ pub fn put_item_name(into: &mut Bytes, value: &ItemName) -> Result<(), NoMemory>
 }
 
 fn put_item(into: &mut Bytes, value: &Item) -> Result<(), NoMemory>
-    ensures { OnOk result (into.new ≡ into.old ++ form_item value.now) }
+    ensures text { OnOk result (into.new ≡ into.old ++ form_item value.now) }
+    ensures fits { OnOk result (IsItem value.now) }
 {
     put_item_name(into, &value.name)?;
     put_key(into, &value.folder)?;
@@ -117,7 +128,8 @@ fn put_item(into: &mut Bytes, value: &Item) -> Result<(), NoMemory>
 }
 
 fn put_texts(into: &mut Bytes, values: &[Bytes]) -> Result<(), NoMemory>
-    ensures { OnOk result (into.new ≡ into.old ++ form_all form_bytes values.now) }
+    ensures text { OnOk result (into.new ≡ into.old ++ form_all form_bytes values.now) }
+    ensures fits { OnOk result (IsListOf IsBytes values.now) }
 {
     put_count(into, values.len())?;
     for value in values {
@@ -127,7 +139,8 @@ fn put_texts(into: &mut Bytes, values: &[Bytes]) -> Result<(), NoMemory>
 }
 
 fn put_items(into: &mut Bytes, values: &[Item]) -> Result<(), NoMemory>
-    ensures { OnOk result (into.new ≡ into.old ++ form_all form_item values.now) }
+    ensures text { OnOk result (into.new ≡ into.old ++ form_all form_item values.now) }
+    ensures fits { OnOk result (IsListOf IsItem values.now) }
 {
     put_count(into, values.len())?;
     for value in values {
@@ -138,7 +151,8 @@ fn put_items(into: &mut Bytes, values: &[Item]) -> Result<(), NoMemory>
 
 /// Appends a release: its texts and its items, with no holds and no ends.
 pub fn put_release(into: &mut Bytes, value: &Release) -> Result<(), NoMemory>
-    ensures { OnOk result (into.new ≡ into.old ++ form_release value.now) }
+    ensures text { OnOk result (into.new ≡ into.old ++ form_release value.now) }
+    ensures fits { OnOk result (IsRelease value.now) }
 {
     put_texts(into, value.texts.as_slice())?;
     put_items(into, value.items.as_slice())?;
@@ -147,7 +161,8 @@ pub fn put_release(into: &mut Bytes, value: &Release) -> Result<(), NoMemory>
 }
 
 fn put_reverse(into: &mut Bytes, value: Option<&Key>) -> Result<(), NoMemory>
-    ensures { OnOk result (into.new ≡ into.old ++ form_key_option (option_copied value.entry)) }
+    ensures text { OnOk result (into.new ≡ into.old ++ form_key_option (option_copied value.entry)) }
+    ensures fits { OnOk result (IsKeyOption (option_copied value.entry)) }
 {
     match value {
         None => into.add(&[0]),
@@ -159,7 +174,8 @@ fn put_reverse(into: &mut Bytes, value: Option<&Key>) -> Result<(), NoMemory>
 }
 
 fn put_submission(into: &mut Bytes, value: &Submission) -> Result<(), NoMemory>
-    ensures { OnOk result (into.new ≡ into.old ++ form_submission value.now) }
+    ensures text { OnOk result (into.new ≡ into.old ++ form_submission value.now) }
+    ensures fits { OnOk result (IsSubmission value.now) }
 {
     put_origin(into, value.origin())?;
     put_reverse(into, value.reverse())?;
@@ -168,7 +184,8 @@ fn put_submission(into: &mut Bytes, value: &Submission) -> Result<(), NoMemory>
 }
 
 fn put_entry(into: &mut Bytes, entry: &Entry) -> Result<(), NoMemory>
-    ensures { OnOk result (into.new ≡ into.old ++ entry_text entry.now) }
+    ensures text { OnOk result (into.new ≡ into.old ++ entry_text entry.now) }
+    ensures fits { OnOk result (IsEntry entry.now) }
 {
     match entry {
         Entry::Accepted { moment, submission } => {
@@ -202,7 +219,8 @@ impl Entry {
     ///
     /// An entry with a list of 2^32 elements or more has none, and is answered with want of memory.
     pub fn text(&self, alloc: Global) -> Result<Bytes, NoMemory>
-        ensures { IfOk result (λ text. text ≡ entry_text self.now) }
+        ensures text { IfOk result (λ text. text ≡ entry_text self.now) }
+        ensures entry { OnOk result (IsEntry self.now) }
     {
         let mut text = Bytes::new(alloc);
         put_entry(&mut text, self)?;

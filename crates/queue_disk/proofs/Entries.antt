@@ -3,9 +3,11 @@ use Rattle.std.proofs.Common.{◌≡◌, ◌⊎◌, inl, inr, ℕ, ◌+◌, List
 use Rattle.std.specs.Prelude.{codes}
 use Rattle.std.proofs.lemmas.List.{append-nil, map-append}
 use Rattle.mail_plan.specs.declared.entry.Entry.{Entry}
+use Rattle.std.specs.List.{AllByRecursion}
+use Rattle.mail_plan.specs.Entries.{IsEntry}
 use Rattle.mail_plan.specs.EntryText.{le64, entry_text}
-use Rattle.queue_disk.specs.Log.{records, log_text, payloads, log_of, Shut, Opened, OneMore}
-use Rattle.queue_disk.proofs.Numbers.{length-le64}
+use Rattle.queue_disk.specs.Log.{records, log_text, payloads, log_of, Frames, LogOf, Shut, Opened, OneMore}
+use Rattle.mail_plan.proofs.Numbers.{length-le64}
 
 pub records-push : (ps : List (List ℕ)) (payload : List ℕ) → records (ps ++ payload ∷ []) ≡ records ps ++ 1 ∷ (le64 (length payload) ++ payload)
 records-push [] payload = ap (λ (l : List ℕ). 1 ∷ (le64 (length payload) ++ l)) (append-nil payload)
@@ -48,10 +50,18 @@ pub length-push : (h : List Entry) (entry : Entry) → length (log_of (h ++ entr
 length-push h entry =
     ap (λ (ps : List (List ℕ)). length (log_text ps)) (payloads-push h entry) ∙ length-log_text (payloads h) (entry_text entry)
 
-pub opened_entry : (h : List Entry) (entry : Entry) (file : List ℕ) → Opened (log_of h) (le64 (length (entry_text entry)) ++ (entry_text entry ++ 0 ∷ [])) file → Shut (log_of (h ++ entry ∷ [])) file
-opened_entry h entry file opened =
-    subst (λ (ps : List (List ℕ)). Shut (log_text ps) file) (sym (payloads-push h entry)) (opened_is (payloads h) (entry_text entry) file opened)
+all-push : {X : Type 0} (P : X → Type 0) (xs : List X) (x : X) → AllByRecursion P xs → P x → AllByRecursion P (xs ++ x ∷ [])
+all-push P [] x each one = (one, tt)
+all-push P (y ∷ xs) x each one = (each.0, all-push P xs x each.1 one)
 
-pub one_more : (h : List Entry) (entry : Entry) (file : List ℕ) → Shut (log_of h) file ⊎ Opened (log_of h) (le64 (length (entry_text entry)) ++ (entry_text entry ++ 0 ∷ [])) file → OneMore h entry file
-one_more h entry file (inl shut) = inl (inr shut)
-one_more h entry file (inr opened) = inr (inr (opened_entry h entry file opened))
+pub opened_entry : (h : List Entry) (entry : Entry) (file bytes : List ℕ) → AllByRecursion IsEntry h → Frames bytes entry → Opened (log_of h) bytes file → LogOf file (h ++ entry ∷ [])
+opened_entry h entry file bytes each frames opened = record {
+  entries = all-push IsEntry h entry each frames.entry;
+  text =
+      subst (λ (ps : List (List ℕ)). Shut (log_text ps) file) (sym (payloads-push h entry))
+      (opened_is (payloads h) (entry_text entry) file (subst (λ (b : List ℕ). Opened (log_of h) b file) frames.text opened));
+}
+
+pub one_more : (h : List Entry) (entry : Entry) (file bytes : List ℕ) → AllByRecursion IsEntry h → Frames bytes entry → Shut (log_of h) file ⊎ Opened (log_of h) bytes file → OneMore h entry file
+one_more h entry file bytes each frames (inl shut) = inl (inr (record { entries = each; text = shut }))
+one_more h entry file bytes each frames (inr opened) = inr (inr (opened_entry h entry file bytes each frames opened))

@@ -3,9 +3,11 @@ use Rattle.std.proofs.Common.{◌≡◌, ◌⊎◌, ℕ, ◌+◌, List, [], ◌�
 use Rattle.plant_dev.specs.Disk.{State, OnFile, LeavesOnly, From}
 use Rattle.plant_dev.proofs.Moments.{weakens}
 use Rattle.mail_plan.specs.declared.entry.Entry.{Entry}
-use Rattle.mail_plan.specs.EntryText.{le64, entry_text}
-use Rattle.queue_disk.specs.Log.{frame, log_of, Shut, Opened, OneMore}
-use Rattle.queue_disk.proofs.Numbers.{length-le64}
+use Rattle.std.specs.List.{AllByRecursion}
+use Rattle.mail_plan.specs.Entries.{IsEntry}
+use Rattle.mail_plan.specs.EntryText.{le64}
+use Rattle.queue_disk.specs.Log.{frame, Frames, log_of, Shut, Opened, OneMore}
+use Rattle.mail_plan.proofs.Numbers.{length-le64}
 use Rattle.queue_disk.proofs.Entries.{one_more}
 
 pub length-frame : (payload : List ℕ) → length (frame payload) ≡ length payload + 9
@@ -13,10 +15,10 @@ length-frame payload =
     omega (arith, length-append (le64 (length payload)) (payload ++ 0 ∷ []), length-append payload (0 ∷ []), length-le64 (length payload))
 
 -- the clause of the four calls, for the record's bytes
-pub lifted : (h : List Entry) (entry : Entry) (bytes : List ℕ) (s0 s1 : State) → bytes ≡ frame (entry_text entry)
+pub lifted : (h : List Entry) (entry : Entry) (bytes : List ℕ) (s0 s1 : State) → AllByRecursion IsEntry h → Frames bytes entry
     → LeavesOnly s0 s1 (From s0 (OnFile (λ _ file. Shut (log_of h) file ⊎ Opened (log_of h) bytes file)))
     → LeavesOnly s0 s1 (From s0 (OnFile (λ _ file. OneMore h entry file)))
-lifted h entry bytes s0 s1 is run =
+lifted h entry bytes s0 s1 each frames run =
     weakens s0 s1 _ (From s0 (OnFile (λ _ file. OneMore h entry file)))
-    (λ c (d, was, step). (d, was, record { file = one_more h entry c.file (subst (λ (b : List ℕ). Shut (log_of h) c.file ⊎ Opened (log_of h) b c.file) is step.file); shelf = step.shelf }))
+    (λ c (d, was, step). (d, was, record { file = one_more h entry c.file bytes each frames step.file; shelf = step.shelf }))
     run

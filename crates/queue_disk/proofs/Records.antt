@@ -4,7 +4,7 @@ use Rattle.std.proofs.lemmas.List.{take_at, drop-drop}
 use Rattle.plant_dev.specs.Disk.{Image}
 use Rattle.mail_plan.specs.EntryText.{le64}
 use Rattle.queue_disk.specs.Reading.{Recorded, GateAnswer, SizeAnswer, BytesAnswer}
-use Rattle.queue_disk.proofs.Numbers.{length-le64, le64_same}
+use Rattle.mail_plan.proofs.Numbers.{length-le64, le64_same}
 
 pub on_image : (i j : Image) (P : List ℕ → Type 0) → j ≡ i → P j.file → P i.file
 on_image i j P same p = subst (λ (z : Image). P z.file) same p

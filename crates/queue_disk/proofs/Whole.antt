@@ -1,11 +1,18 @@
--- A log is read payload by payload, to its closed gate.
-use Rattle.std.proofs.Common.{◌≡◌, ◌≢◌, inl, inr, ℕ, ◌+◌, ◌<◌, ◌^◌, List, [], ◌∷◌, ◌++◌, length, take, drop, refl, sym, ◌∙◌, ap, arith, append_assoc, length-append, length-drop}
+-- A log is read entry by entry, to its closed gate.
+use Rattle.std.proofs.Common.{◌≡◌, ◌≢◌, inl, inr, ℕ, ◌+◌, ◌<◌, ◌^◌, List, [], ◌∷◌, ◌++◌, length, take, drop, Option, Some, None, Result, Ok, Err, refl, sym, ◌∙◌, ap, subst, arith, append_assoc, length-append, length-drop}
+use Rattle.std.specs.Prelude.{◌⊎◌, IsErrAnd, IfErr}
+use Rattle.std.specs.List.{AllByRecursion}
 use Rattle.std.proofs.lemmas.List.{append-nil, take_at, drop_at, drop-drop}
-use Rattle.mail_plan.specs.EntryText.{le64}
-use Rattle.queue_disk.specs.Log.{records, log_text, Shut}
-use Rattle.queue_disk.specs.Reading.{Recorded, ShutGate, IsBad, IsRead}
-use Rattle.queue_disk.proofs.Numbers.{length-le64, le64_same}
-use Rattle.queue_disk.proofs.Entries.{length-log_text}
+use Rattle.mail_plan.specs.declared.entry.Entry.{Entry}
+use Rattle.mail_plan.specs.EntryText.{le64, entry_text}
+use Rattle.mail_plan.specs.Entries.{IsEntry}
+use Rattle.mail_plan.proofs.Numbers.{length-le64, le64_same}
+use Rattle.mail_plan.proofs.Forms.{one_entry}
+use Rattle.queue_disk.specs.declared.fault.LogFault.{LogFault}
+use Rattle.queue_disk.specs.declared.fault.LogFault.TheVariants.{DiskFault, NotALog, NoMemory, LogFull}
+use Rattle.queue_disk.specs.Log.{records, payloads, log_of, LogOf}
+use Rattle.queue_disk.specs.Reading.{Recorded, ShutGate, IsBad, NoEntry, RecordAnswer, PlaceAnswer, IsRead, ReadsOn}
+use Rattle.queue_disk.proofs.Entries.{length-push}
 
 -- two records that stand first in the same bytes are one
 module _ (x e after more : List ℕ) (small : length x < 2 ^ 64) (also : length e < 2 ^ 64) (same : le64 (length x) ++ (x ++ after) ≡ le64 (length e) ++ (e ++ more)) where
@@ -19,66 +26,126 @@ module _ (x e after more : List ℕ) (small : length x < 2 ^ 64) (also : length 
   pub one_payload : x ≡ e
   one_payload = sym (take_at x after (length x) refl) ∙ ap (λ (l : List ℕ). take (length x) l) tails ∙ take_at e more (length x) (sym sizes)
 
-module _ (file : List ℕ) (h done : List (List ℕ)) (place gate : ℕ) (more : List ℕ) (at : place ≡ length (log_text done)) (shut : gate ≢ 1) (bound : length file < 2 ^ 64) where
-  -- the records that are left, and the first of them
-  some : (later : List (List ℕ)) (payload : List ℕ) → h ≡ done ++ later → drop place file ≡ records later ++ gate ∷ more → Recorded payload (drop place file) → IsRead file h (done ++ payload ∷ []) (place + 9 + length payload)
-  some [] payload all text r = let both : gate ∷ more ≡ 1 ∷ (le64 (length payload) ++ (payload ++ r.more)) = sym text ∙ r.text in let one : gate ≡ 1 = cc both in absurd (shut one)
-  some (x ∷ later) payload all text r =
-      let after = records later ++ gate ∷ more in
-      let grouped : records (x ∷ later) ++ gate ∷ more ≡ 1 ∷ (le64 (length x) ++ (x ++ after)) =
-      ap (λ (l : List ℕ). 1 ∷ l) (append_assoc (le64 (length x)) (x ++ records later) (gate ∷ more) ∙ ap (λ (l : List ℕ). le64 (length x) ++ l) (append_assoc x (records later) (gate ∷ more))) in
-      let whole : drop place file ≡ 1 ∷ (le64 (length x) ++ (x ++ after)) = text ∙ grouped in
-      let sized : length x < 2 ^ 64 = omega (arith, bound, ap length whole, length-drop place file, length-append (le64 (length x)) (x ++ after), length-append x after) in
-      let same : le64 (length x) ++ (x ++ after) ≡ le64 (length payload) ++ (payload ++ r.more) = ap (λ (l : List ℕ). drop 1 l) (sym whole ∙ r.text) in
-      let is : x ≡ payload = one_payload x payload after r.more sized r.small same in
+pub same_payload : (x e rest : List ℕ) → Recorded x rest → Recorded e rest → x ≡ e
+same_payload x e rest r q = one_payload x e r.more q.more r.small q.small (ap (λ (l : List ℕ). drop 1 l) (sym r.text ∙ q.text))
+
+-- where no whole record stands, none of an entry does
+pub no_record : (rest : List ℕ) → IsBad rest → NoEntry rest
+no_record rest (inl empty) = inl empty
+no_record rest (inr (gate, never)) = inr (gate, λ entry is r. never (entry_text entry) r)
+
+-- nor where a record stands whose payload is no entry's text
+pub no_text : (payload rest : List ℕ) → Recorded payload rest → ((entry : Entry) → IsEntry entry → payload ≡ entry_text entry → ⊥) → NoEntry rest
+no_text payload rest r none = inr (
+  r.text ∙ ap (λ (l : List ℕ). 1 ∷ l) (sym (ap (λ (l : List ℕ). drop 1 l) r.text)),
+  λ entry is q. none entry is (same_payload payload (entry_text entry) rest r q),
+)
+
+module _ (file : List ℕ) (h done : List Entry) (place gate : ℕ) (more : List ℕ) (at : place ≡ length (log_of done)) (shut : gate ≢ 1) (bound : length file < 2 ^ 64) where
+  abbrev Rest : List Entry → Type 0
+  Rest later = drop place file ≡ records (payloads later) ++ gate ∷ more
+
+  -- the record of the first entry that is left
+  first_record : (x : Entry) (later : List Entry) → Rest (x ∷ later) → Recorded (entry_text x) (drop place file)
+  first_record x later text =
+      let t = entry_text x in
+      let after = records (payloads later) ++ gate ∷ more in
+      let whole : drop place file ≡ 1 ∷ (le64 (length t) ++ (t ++ after)) =
+      text ∙ ap (λ (l : List ℕ). 1 ∷ l) (append_assoc (le64 (length t)) (t ++ records (payloads later)) (gate ∷ more) ∙ ap (λ (l : List ℕ). le64 (length t) ++ l) (append_assoc t (records (payloads later)) (gate ∷ more))) in
+      record {
+        more = after;
+        text = whole;
+        small = omega (arith, bound, ap length whole, length-drop place file, length-append (le64 (length t)) (t ++ after), length-append t after);
+      }
+
+  some : (later : List Entry) (entry : Entry) → h ≡ done ++ later → AllByRecursion IsEntry later → Rest later → IsEntry entry → Recorded (entry_text entry) (drop place file)
+      → IsRead file h (done ++ entry ∷ []) (place + 9 + length (entry_text entry))
+  unfolding first_record
+  some [] entry all each text is r = let both : gate ∷ more ≡ 1 ∷ (le64 (length (entry_text entry)) ++ (entry_text entry ++ r.more)) = sym text ∙ r.text in let one : gate ≡ 1 = cc both in absurd (shut one)
+  some (x ∷ later) entry all each text is r =
+      let t = entry_text x in
+      let after = records (payloads later) ++ gate ∷ more in
+      let first = first_record x later text in
+      let texts : t ≡ entry_text entry = same_payload t (entry_text entry) (drop place file) first r in
+      let same : x ≡ entry = (one_entry x entry [] [] each.0 is (ap (λ (l : List ℕ). l ++ []) texts)).0 in
       record {
         later = later;
         gate = gate;
         more = more;
-        all = all ∙ sym (append_assoc done (x ∷ []) later) ∙ ap (λ (y : List ℕ). (done ++ y ∷ []) ++ later) is;
-        at = omega (arith, at, length-log_text done payload);
+        all = all ∙ sym (append_assoc done (x ∷ []) later) ∙ ap (λ (y : Entry). (done ++ y ∷ []) ++ later) same;
+        entries = each.1;
+        at = omega (arith, at, length-push done entry);
         text =
-            ap (λ (n : ℕ). drop n file) (let e : place + 9 + length payload ≡ place + (9 + length x) = omega (arith, ap length is) in e)
-            ∙ sym (drop-drop (9 + length x) place file)
-            ∙ ap (λ (l : List ℕ). drop (9 + length x) l) (whole ∙ ap (λ (l : List ℕ). 1 ∷ l) (sym (append_assoc (le64 (length x)) x after)))
-            ∙ drop_at (1 ∷ (le64 (length x) ++ x)) after (9 + length x) (omega (arith, length-append (le64 (length x)) x, length-le64 (length x)));
+            ap (λ (n : ℕ). drop n file) (let e : place + 9 + length (entry_text entry) ≡ place + (9 + length t) = omega (arith, ap length texts) in e)
+            ∙ sym (drop-drop (9 + length t) place file)
+            ∙ ap (λ (l : List ℕ). drop (9 + length t) l) (first.text ∙ ap (λ (l : List ℕ). 1 ∷ l) (sym (append_assoc (le64 (length t)) t first.more)))
+            ∙ drop_at (1 ∷ (le64 (length t) ++ t)) first.more (9 + length t) (omega (arith, length-append (le64 (length t)) t, length-le64 (length t)));
         shut = shut;
+        small = bound;
       }
 
-  none : (later : List (List ℕ)) → h ≡ done ++ later → drop place file ≡ records later ++ gate ∷ more → ShutGate (drop place file) → done ≡ h
-  none [] all text s = sym (all ∙ append-nil done)
-  none (x ∷ later) all text s =
-      let both : s.gate ∷ s.more ≡ 1 ∷ ((le64 (length x) ++ (x ++ records later)) ++ gate ∷ more) = sym s.text ∙ text in let one : s.gate ≡ 1 = cc both in absurd (s.shut one)
+  none : (later : List Entry) → h ≡ done ++ later → Rest later → ShutGate (drop place file) → h ≡ done
+  none [] all text s = all ∙ append-nil done
+  none (x ∷ later) all text s = let both : s.gate ∷ s.more ≡ 1 ∷ (le64 (length (entry_text x)) ++ (entry_text x ++ (first_record x later text).more)) = sym s.text ∙ (first_record x later text).text in let one : s.gate ≡ 1 = cc both in absurd (s.shut one)
 
-  bad : (later : List (List ℕ)) → drop place file ≡ records later ++ gate ∷ more → IsBad (drop place file) → ⊥
-  bad [] text (inl empty) = let both : [] ≡ gate ∷ more = sym empty ∙ text in cc both
-  bad [] text (inr (first, never)) = let both : gate ∷ more ≡ 1 ∷ drop 1 (drop place file) = sym text ∙ first in let one : gate ≡ 1 = cc both in shut one
-  bad (x ∷ later) text (inl empty) = let both : [] ≡ 1 ∷ ((le64 (length x) ++ (x ++ records later)) ++ gate ∷ more) = sym empty ∙ text in cc both
-  bad (x ∷ later) text (inr (first, never)) =
-      let after = records later ++ gate ∷ more in
-      let grouped : records (x ∷ later) ++ gate ∷ more ≡ 1 ∷ (le64 (length x) ++ (x ++ after)) =
-      ap (λ (l : List ℕ). 1 ∷ l) (append_assoc (le64 (length x)) (x ++ records later) (gate ∷ more) ∙ ap (λ (l : List ℕ). le64 (length x) ++ l) (append_assoc x (records later) (gate ∷ more))) in
-      let whole : drop place file ≡ 1 ∷ (le64 (length x) ++ (x ++ after)) = text ∙ grouped in
-      let sized : length x < 2 ^ 64 = omega (arith, bound, ap length whole, length-drop place file, length-append (le64 (length x)) (x ++ after), length-append x after) in
-      never x (record { more = after; text = whole; small = sized })
+  bad : (later : List Entry) → AllByRecursion IsEntry later → Rest later → NoEntry (drop place file) → ⊥
+  bad [] each text (inl empty) = let both : [] ≡ gate ∷ more = sym empty ∙ text in cc both
+  bad [] each text (inr (first, never)) = let both : gate ∷ more ≡ 1 ∷ drop 1 (drop place file) = sym text ∙ first in let one : gate ≡ 1 = cc both in shut one
+  bad (x ∷ later) each text (inl empty) = let both : [] ≡ 1 ∷ (le64 (length (entry_text x)) ++ (entry_text x ++ (first_record x later text).more)) = sym empty ∙ (first_record x later text).text in cc both
+  bad (x ∷ later) each text (inr (first, never)) = never x each.0 (first_record x later text)
 
-pub read_some : (file : List ℕ) (h done : List (List ℕ)) (place : ℕ) (payload : List ℕ) → length file < 2 ^ 64 → IsRead file h done place → Recorded payload (drop place file) → IsRead file h (done ++ payload ∷ []) (place + 9 + length payload)
-read_some file h done place payload bound r rec = some file h done place r.gate r.more r.at r.shut bound r.later payload r.all r.text rec
+-- the next answer, of a log that has been read so far
+pub read_some : (file : List ℕ) (h done : List Entry) (place next : ℕ) (entry : Entry) → IsRead file h done place → IsEntry entry × Recorded (entry_text entry) (drop place file) → next ≡ place + 9 + length (entry_text entry) → IsRead file h (done ++ entry ∷ []) next
+read_some file h done place next entry r (is, rec) moved =
+    subst (λ (n : ℕ). IsRead file h (done ++ entry ∷ []) n) (sym moved) (some file h done place r.gate r.more r.at r.shut r.small r.later entry r.all r.entries r.text is rec)
 
-pub read_none : (file : List ℕ) (h done : List (List ℕ)) (place : ℕ) → length file < 2 ^ 64 → IsRead file h done place → ShutGate (drop place file) → done ≡ h
-read_none file h done place bound r s = none file h done place r.gate r.more r.at r.shut bound r.later r.all r.text s
+pub read_none : (file : List ℕ) (h done : List Entry) (place : ℕ) → IsRead file h done place → ShutGate (drop place file) → (h ≡ done) × (place ≡ length (log_of h))
+read_none file h done place r s =
+    let all = none file h done place r.gate r.more r.at r.shut r.small r.later r.all r.text s in
+    (all, r.at ∙ ap (λ (es : List Entry). length (log_of es)) (sym all))
 
-pub read_bad : (file : List ℕ) (h done : List (List ℕ)) (place : ℕ) → length file < 2 ^ 64 → IsRead file h done place → IsBad (drop place file) → ⊥
-read_bad file h done place bound r b = bad file h done place r.gate r.more r.at r.shut bound r.later r.text b
+err_on : (file : List ℕ) (h done : List Entry) (place next : ℕ) (e : LogFault) → IsRead file h done place → PlaceAnswer (drop place file) place (Err e) → ReadsOn file h done next (Err e)
+err_on file h done place next DiskFault r answer = tt
+err_on file h done place next NoMemory r answer = tt
+err_on file h done place next (NotALog at) r answer = bad file h done place r.gate r.more r.at r.shut r.small r.later r.entries r.text answer.1
+err_on file h done place next (LogFull length) r answer = answer
 
--- before the first payload
-pub read_start : (file : List ℕ) (h : List (List ℕ)) (place : ℕ) → Shut (log_text h) file → place ≡ 8 → IsRead file h [] place
-read_start file h place closed eight = record {
+-- a fault is none of the file
+pub read_err : (file : List ℕ) (h done : List Entry) (place next : ℕ) (e : LogFault) (result : Result (Option Entry) LogFault) → IsErrAnd result (λ f. f ≡ e) → IsRead file h done place → PlaceAnswer (drop place file) place (Err e) → ReadsOn file h done next result
+read_err file h done place next e (Ok found) same r answer = absurd same
+read_err file h done place next e (Err f) same r answer =
+    subst (λ (g : LogFault). ReadsOn file h done next (Err g)) (sym same) (err_on file h done place next e r answer)
+
+fault_on : (file : List ℕ) (h done : List Entry) (next : ℕ) (e : LogFault) → ReadsOn file h done next (Err e) → (e ≡ DiskFault) ⊎ (e ≡ NoMemory)
+fault_on file h done next DiskFault on = inl refl
+fault_on file h done next NoMemory on = inr refl
+fault_on file h done next (NotALog at) on = absurd on
+fault_on file h done next (LogFull length) on = absurd on
+
+pub fault_is : {T : Type 0} (file : List ℕ) (h done : List Entry) (next : ℕ) (e : LogFault) (result : Result T LogFault) → IsErrAnd result (λ f. f ≡ e) → ReadsOn file h done next (Err e) → IfErr result (λ f. (f ≡ DiskFault) ⊎ (f ≡ NoMemory))
+fault_is file h done next e (Ok found) same on = tt
+fault_is file h done next e (Err f) same on = subst (λ (g : LogFault). (g ≡ DiskFault) ⊎ (g ≡ NoMemory)) (sym same) (fault_on file h done next e on)
+
+place_err : (rest : List ℕ) (place : ℕ) (e : LogFault) → RecordAnswer rest place (Err e) → PlaceAnswer rest place (Err e)
+place_err rest place DiskFault answer = tt
+place_err rest place NoMemory answer = tt
+place_err rest place (NotALog at) answer = (answer.0, no_record rest answer.1)
+place_err rest place (LogFull length) answer = answer
+
+pub fault_at : (rest : List ℕ) (place : ℕ) (e : LogFault) (result : Result (Option (Entry × ℕ)) LogFault) → IsErrAnd result (λ f. f ≡ e) → RecordAnswer rest place (Err e) → PlaceAnswer rest place result
+fault_at rest place e (Ok found) same answer = absurd same
+fault_at rest place e (Err f) same answer = subst (λ (g : LogFault). PlaceAnswer rest place (Err g)) (sym same) (place_err rest place e answer)
+
+-- before the first entry
+pub unread : (file : List ℕ) (h : List Entry) → LogOf file h → length file < 2 ^ 64 → IsRead file h [] 8
+unread file h log small = record {
   later = h;
-  gate = closed.gate;
-  more = closed.rest;
+  gate = log.text.gate;
+  more = log.text.rest;
   all = refl;
-  at = eight;
-  text = ap (λ (n : ℕ). drop n file) eight ∙ ap (λ (l : List ℕ). drop 8 l) closed.text;
-  shut = closed.shut;
+  entries = log.entries;
+  at = refl;
+  text = ap (λ (l : List ℕ). drop 8 l) log.text.text;
+  shut = log.text.shut;
+  small = small;
 }

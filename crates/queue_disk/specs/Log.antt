@@ -1,8 +1,10 @@
 -- What the bytes of a log file stand for.
 use Rattle.std.specs.Prelude.{◌≡◌, ◌≢◌, ◌⊎◌, ⊤, ℕ, ◌+◌, ◌-◌, ◌^◌, ◌≤◌, ◌<◌, min, take, get_or, map, List, [], ◌∷◌, ◌++◌, length, Option, Some, None, Result, Ok, Err, codes}
+use Rattle.std.specs.List.{AllByRecursion}
 use Rattle.plant_dev.specs.Disk.{State, Durable}
 use Rattle.mail_plan.specs.declared.entry.Entry.{Entry}
 use Rattle.mail_plan.specs.EntryText.{le64, entry_text}
+use Rattle.mail_plan.specs.Entries.{IsEntry}
 use Rattle.queue_disk.specs.declared.fault.LogFault.{LogFault}
 use Rattle.queue_disk.specs.declared.fault.LogFault.TheVariants.{DiskFault, NotALog, NoMemory, LogFull}
 
@@ -27,6 +29,11 @@ log_of h = log_text (payloads h)
 abbrev pub frame : List ℕ → List ℕ
 frame payload = le64 (length payload) ++ (payload ++ 0 ∷ [])
 
+-- what is written of this entry
+pub record Frames (bytes : List ℕ) (e : Entry) : Type 0 where
+  pub entry : IsEntry e
+  pub text : bytes ≡ frame (entry_text e)
+
 -- these bytes, and behind them a gate that isn't open and any bytes
 pub record Shut (front file : List ℕ) : Type 0 where
   pub gate : ℕ
@@ -39,13 +46,18 @@ pub record Opened (front bytes file : List ℕ) : Type 0 where
   pub rest : List ℕ
   pub text : file ≡ front ++ 1 ∷ (bytes ++ rest)
 
+-- these are entries, and the file is their log: their records, a closed gate and any bytes
+pub record LogOf (file : List ℕ) (h : List Entry) : Type 0 where
+  pub entries : AllByRecursion IsEntry h
+  pub text : Shut (log_of h) file
+
 -- The file stands for these entries. One of at most nine bytes stands for none.
 abbrev pub FileOf : List ℕ → List Entry → Type 0
-FileOf file h = ((length file ≤ 9) × (h ≡ [])) ⊎ Shut (log_of h) file
+FileOf file h = ((length file ≤ 9) × (h ≡ [])) ⊎ LogOf file h
 
 -- the file is a log of these entries, its closed gate stands at this place, and all of it is on the disk
 pub record IsOpen (s : State) (place : ℕ) (h : List Entry) : Type 0 where
-  pub file : Shut (log_of h) s.image.file
+  pub file : LogOf s.image.file h
   pub at : place ≡ length (log_of h)
   pub durable : Durable s
 

@@ -10,3 +10,6 @@ mod read;
 pub use fault::LogFault;
 pub use log::{Framed, Log, read_all};
 pub use open::open_log;
+
+#[cfg(test)]
+mod tests;

@@ -4,12 +4,12 @@ ghost use Rattle.port_io.specs.Causes.{Rose};
 ghost use Rattle.plant_dev.specs.Disk.{Stays, Reads, OnFile, LeavesOnly, From};
 ghost use Rattle.mail_plan.specs.declared.entry.Entry.{Entry};
 ghost use Rattle.mail_plan.specs.EntryText.{le64, entry_text};
-ghost use Rattle.queue_disk.specs.Reading.{NextAnswer};
-ghost use Rattle.queue_disk.specs.Log.{frame, payloads, log_of, Shut, IsOpen, OneMore, FullAnswer};
+ghost use Rattle.queue_disk.specs.Reading.{NextAnswer, IsRead, ReadsOn};
+ghost use Rattle.queue_disk.specs.Log.{Frames, log_of, IsOpen, OneMore, FullAnswer};
 
 use crate::fault::LogFault;
 use crate::gated::write_behind;
-use crate::read::record_at;
+use crate::read::entry_at;
 use mail_names::{Bytes, NoMemory};
 use mail_plan::{Entry, put_bytes};
 use plant_dev::Plant;
@@ -58,6 +58,7 @@ impl Model for Framed {
 }
 
 impl Log {
+    // A log of which nothing was read.
     pub fn start(most: u64) -> Log
         ensures { result ≡ record { place = 8; gate = 8; most = most } }
     {
@@ -75,29 +76,36 @@ impl Log {
         self.gate
     }
 
-    /// The payload of the next entry, or none at the closed gate.
-    pub fn next_text<P: Plant>(
+    /// The next entry, or none at the closed gate.
+    ///
+    /// `NotALog` names the gate of an open record whose length runs past the end or whose payload is no entry, or the
+    /// place of a gate that the file's end has cut off.
+    pub fn next<P: Plant>(
         &mut self,
         alloc: Global,
         plant: &mut P,
-    ) -> Result<Option<Bytes>, LogFault>
+    ) -> Result<Option<Entry>, LogFault>
         ensures stays { Stays (P.state plant.old) (P.state plant.new) }
         ensures told { (P.state plant.new).told_shelf ≡ (P.state plant.old).told_shelf }
         ensures cause { IsErrOf result LogFault.DiskFault → Rose (P.state plant.old).disk_faults (P.state plant.new).disk_faults }
         ensures reads { IsTrue (P.state plant.old).honest → Reads (P.state plant.old) (P.state plant.new) }
         ensures answer { IsTrue (P.state plant.old).honest → NextAnswer (drop self.old.place (P.state plant.old).image.file) self.old.place result }
-        ensures moves { IfOk result (λ found. IfSome found (λ payload. self.new ≡ record self.old { place = self.old.place + 9 + length payload; gate = self.old.place })) }
-        ensures fits { IfOk result (λ found. IfSome found (λ payload. self.new.place < 2 ^ 64)) }
+
+        // Of a log of entries it gives each in order, and then none.
+        ensures reads_on { (h done : List Entry) → IsTrue (P.state plant.old).honest → IsRead (P.state plant.old).image.file h done self.old.place →
+            ReadsOn (P.state plant.old).image.file h done self.new.place result }
+
+        ensures moves { IfOk result (λ found. IfSome found (λ entry. self.new ≡ record self.old { place = self.old.place + 9 + length (entry_text entry); gate = self.old.place })) }
+        ensures fits { IfOk result (λ found. IfSome found (λ entry. self.new.place < 2 ^ 64)) }
         ensures ends { IfOk result (λ found. IfNone found (self.new ≡ self.old)) }
         ensures err { OnErr result (self.new ≡ self.old) }
     {
-        let place = self.place;
-        match record_at(alloc, plant, place)? {
+        match entry_at(alloc, plant, self.place)? {
             None => Ok(None),
-            Some(payload) => {
-                self.gate = place;
-                self.place = place + 9 + payload.as_slice().len() as u64;
-                Ok(Some(payload))
+            Some((entry, end)) => {
+                self.gate = self.place;
+                self.place = end;
+                Ok(Some(entry))
             }
         }
     }
@@ -118,6 +126,7 @@ impl Log {
         ensures cause { IsErrOf result LogFault.DiskFault → Rose (P.state plant.old).disk_faults (P.state plant.new).disk_faults }
         ensures full { FullAnswer self.old.place self.old.most (length (entry_text entry.now)) result }
         ensures as_before { OnErr result (self.new ≡ self.old) }
+        ensures most { self.new.most ≡ self.old.most }
         ensures untouched { IfErr result (λ e. (e ≡ LogFault.DiskFault) ⊎ (plant.new ≡ plant.old)) }
         ensures shelf { IsTrue (P.state plant.old).honest → (P.state plant.new).image.shelf ≡ (P.state plant.old).image.shelf }
 
@@ -134,7 +143,7 @@ impl Log {
 
     /// The record of an entry, if there is memory for it and room in the log.
     pub fn framed(&self, alloc: Global, entry: &Entry) -> Result<Framed, LogFault>
-        ensures bytes { IfOk result (λ r. r ≡ frame (entry_text entry.now)) }
+        ensures bytes { IfOk result (λ r. Frames r entry.now) }
         ensures full { FullAnswer self.now.place self.now.most (length (entry_text entry.now)) result }
         ensures room { IfOk result (λ r. self.now.place + length r + 1 < 2 ^ 64) }
         ensures faults { IfErr result (λ e. e ≢ LogFault.DiskFault) }
@@ -160,10 +169,11 @@ impl Log {
         ensures told { (P.state plant.new).told_shelf ≡ (P.state plant.old).told_shelf }
         ensures cause { OnErr result (Rose (P.state plant.old).disk_faults (P.state plant.new).disk_faults) }
         ensures as_before { OnErr result (self.new ≡ self.old) }
+        ensures most { self.new.most ≡ self.old.most }
         ensures shelf { IsTrue (P.state plant.old).honest → (P.state plant.new).image.shelf ≡ (P.state plant.old).image.shelf }
-        ensures any_moment { (h : List Entry) (entry : Entry) → framed.now ≡ frame (entry_text entry) → IsTrue (P.state plant.old).honest → IsOpen (P.state plant.old) self.old.place h →
+        ensures any_moment { (h : List Entry) (entry : Entry) → Frames framed.now entry → IsTrue (P.state plant.old).honest → IsOpen (P.state plant.old) self.old.place h →
             LeavesOnly (P.state plant.old) (P.state plant.new) (From (P.state plant.old) (OnFile (λ _ file. OneMore h entry file))) }
-        ensures acknowledged { (h : List Entry) (entry : Entry) → framed.now ≡ frame (entry_text entry) → IsTrue (P.state plant.old).honest → IsOpen (P.state plant.old) self.old.place h →
+        ensures acknowledged { (h : List Entry) (entry : Entry) → Frames framed.now entry → IsTrue (P.state plant.old).honest → IsOpen (P.state plant.old) self.old.place h →
             OnOk result (IsOpen (P.state plant.new) self.new.place (h ++ entry ∷ [])) }
     {
         let bytes = framed.bytes.as_slice();
@@ -178,20 +188,20 @@ pub fn read_all<P: Plant>(
     alloc: Global,
     plant: &mut P,
     log: &mut Log,
-) -> Result<Vec<Bytes>, LogFault>
+) -> Result<Vec<Entry>, LogFault>
     ensures stays { Stays (P.state plant.old) (P.state plant.new) }
     ensures cause { IsErrOf result LogFault.DiskFault → Rose (P.state plant.old).disk_faults (P.state plant.new).disk_faults }
     ensures reads { IsTrue (P.state plant.old).honest → Reads (P.state plant.old) (P.state plant.new) }
-    ensures entries { (h : List Entry) → IsTrue (P.state plant.old).honest → length (P.state plant.old).image.file < 2 ^ 64 → Shut (log_of h) (P.state plant.old).image.file → log.old.place ≡ 8 →
-        IfOk result (λ found. found.items ≡ payloads h) }
-    ensures end { (h : List Entry) → IsTrue (P.state plant.old).honest → length (P.state plant.old).image.file < 2 ^ 64 → Shut (log_of h) (P.state plant.old).image.file → log.old.place ≡ 8 →
+    ensures entries { (h : List Entry) → IsTrue (P.state plant.old).honest → IsRead (P.state plant.old).image.file h [] log.old.place →
+        IfOk result (λ found. h ≡ found.items) }
+    ensures end { (h : List Entry) → IsTrue (P.state plant.old).honest → IsRead (P.state plant.old).image.file h [] log.old.place →
         OnOk result (log.new.place ≡ length (log_of h)) }
-    ensures never { (h : List Entry) → IsTrue (P.state plant.old).honest → length (P.state plant.old).image.file < 2 ^ 64 → Shut (log_of h) (P.state plant.old).image.file → log.old.place ≡ 8 →
+    ensures never { (h : List Entry) → IsTrue (P.state plant.old).honest → IsRead (P.state plant.old).image.file h [] log.old.place →
         IfErr result (λ e. (e ≡ LogFault.DiskFault) ⊎ (e ≡ LogFault.NoMemory)) }
 {
-    let mut payloads = Vec::new(alloc);
-    while let Some(payload) = log.next_text(alloc, plant)? {
-        payloads.push(payload)?;
+    let mut entries = Vec::new(alloc);
+    while let Some(entry) = log.next(alloc, plant)? {
+        entries.push(entry)?;
     }
-    Ok(payloads)
+    Ok(entries)
 }

@@ -2,11 +2,12 @@
 ghost use Rattle.std.specs.Prelude.{◌≡◌, ◌⊎◌, ◌+◌, ◌<◌, ◌≤◌, ◌^◌, length, drop, IsTrue, IfOk, IfErr, IfSome, IsErrOf, OnErr};
 ghost use Rattle.port_io.specs.Causes.{Rose};
 ghost use Rattle.plant_dev.specs.Disk.{Stays, Reads};
-ghost use Rattle.mail_plan.specs.EntryText.{le64};
-ghost use Rattle.queue_disk.specs.Reading.{Filled, GateAnswer, SizeAnswer, BytesAnswer, NextAnswer};
+ghost use Rattle.mail_plan.specs.EntryText.{le64, entry_text};
+ghost use Rattle.queue_disk.specs.Reading.{Filled, GateAnswer, SizeAnswer, BytesAnswer, RecordAnswer, PlaceAnswer};
 
 use crate::fault::LogFault;
 use mail_names::Bytes;
+use mail_plan::Entry;
 use plant_dev::Plant;
 use port_io::Failed;
 use std::alloc::Global;
@@ -95,16 +96,12 @@ fn bytes_at<P: Plant>(
 }
 
 // The payload whose record stands at a place, or none at a closed gate.
-pub fn record_at<P: Plant>(
-    alloc: Global,
-    plant: &mut P,
-    place: u64,
-) -> Result<Option<Bytes>, LogFault>
+fn record_at<P: Plant>(alloc: Global, plant: &mut P, place: u64) -> Result<Option<Bytes>, LogFault>
     ensures stays { Stays (P.state plant.old) (P.state plant.new) }
     ensures told { (P.state plant.new).told_shelf ≡ (P.state plant.old).told_shelf }
     ensures cause { IsErrOf result LogFault.DiskFault → Rose (P.state plant.old).disk_faults (P.state plant.new).disk_faults }
     ensures reads { IsTrue (P.state plant.old).honest → Reads (P.state plant.old) (P.state plant.new) }
-    ensures answer { IsTrue (P.state plant.old).honest → NextAnswer (drop place (P.state plant.old).image.file) place result }
+    ensures answer { IsTrue (P.state plant.old).honest → RecordAnswer (drop place (P.state plant.old).image.file) place result }
     ensures fits { IfOk result (λ found. IfSome found (λ payload. place + 9 + length payload < 2 ^ 64)) }
 {
     let length = plant.length()?;
@@ -131,5 +128,28 @@ pub fn record_at<P: Plant>(
                 Some(payload) => Ok(Some(payload)),
             }
         }
+    }
+}
+
+// The entry whose record stands at a place, with the place behind it, or none at a closed gate.
+pub fn entry_at<P: Plant>(
+    alloc: Global,
+    plant: &mut P,
+    place: u64,
+) -> Result<Option<(Entry, u64)>, LogFault>
+    ensures stays { Stays (P.state plant.old) (P.state plant.new) }
+    ensures told { (P.state plant.new).told_shelf ≡ (P.state plant.old).told_shelf }
+    ensures cause { IsErrOf result LogFault.DiskFault → Rose (P.state plant.old).disk_faults (P.state plant.new).disk_faults }
+    ensures reads { IsTrue (P.state plant.old).honest → Reads (P.state plant.old) (P.state plant.new) }
+    ensures answer { IsTrue (P.state plant.old).honest → PlaceAnswer (drop place (P.state plant.old).image.file) place result }
+    ensures behind { IfOk result (λ found. IfSome found (λ entry. entry.1 ≡ place + 9 + length (entry_text entry.0))) }
+    ensures fits { IfOk result (λ found. IfSome found (λ entry. entry.1 < 2 ^ 64)) }
+{
+    let Some(payload) = record_at(alloc, plant, place)? else {
+        return Ok(None);
+    };
+    match Entry::read(alloc, payload.as_slice())? {
+        None => Err(LogFault::NotALog { at: place }),
+        Some(entry) => Ok(Some((entry, place + 9 + payload.as_slice().len() as u64))),
     }
 }

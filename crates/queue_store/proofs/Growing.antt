@@ -11,6 +11,7 @@ use Rattle.plant_dev.specs.declared.plant.ShelfFault.TheVariants as faults
 use Rattle.plant_dev.specs.Disk.{Image}
 use Rattle.plant_dev.specs.Shelf.{Has, Puts, PutBy}
 use Rattle.queue_disk.specs.Log.{FileOf}
+use Rattle.hub_core.specs.declared.limits.Limits.{Limits}
 use Rattle.hub_core.specs.declared.queue.QueuedItem.{QueuedItem}
 use Rattle.hub_core.specs.Items.{items, Among, IsDelivered, IsStep}
 use Rattle.hub_core.proofs.Prescribed.{older, history-push}
@@ -45,17 +46,17 @@ delivered_all h e name shelf all told d =
     shelved_older h e name shelf (elim (delivered_push h e name d) [ inl a ↦ all name a | inr b ↦ delivered_one h e name shelf told b ])
 
 -- one entry more, over the same shelf
-pub stands-push : (c c' : Image) (h : List Entry) (e : Entry) → Stands c h → IsStep h e → IsTrueOf h e c.shelf → c'.shelf ≡ c.shelf → FileOf c'.file (h ++ e ∷ []) → Stands c' (h ++ e ∷ [])
-stands-push c c' h e stands step told same file = record {
-  history = history-push h e stands.history step;
+pub stands-push : (limits : Limits) (c c' : Image) (h : List Entry) (e : Entry) → Stands limits c h → IsStep limits h e → IsTrueOf h e c.shelf → c'.shelf ≡ c.shelf → FileOf c'.file (h ++ e ∷ []) → Stands limits c' (h ++ e ∷ [])
+stands-push limits c c' h e stands step told same file = record {
+  history = history-push limits h e stands.history step;
   file = file;
   within = subst (λ (shelf : List Stored). IsWithin (h ++ e ∷ []) shelf) (sym same) (within_older h e c.shelf stands.within);
   delivered = λ name d. subst (λ (shelf : List Stored). IsShelved (h ++ e ∷ []) name shelf) (sym same) (delivered_all h e name c.shelf stands.delivered told d);
 }
 
 -- the same entries, over the same shelf
-pub stands-same : (c c' : Image) (h : List Entry) → Stands c h → c'.shelf ≡ c.shelf → FileOf c'.file h → Stands c' h
-stands-same c c' h stands same file = record {
+pub stands-same : (limits : Limits) (c c' : Image) (h : List Entry) → Stands limits c h → c'.shelf ≡ c.shelf → FileOf c'.file h → Stands limits c' h
+stands-same limits c c' h stands same file = record {
   history = stands.history;
   file = file;
   within = subst (λ (shelf : List Stored). IsWithin h shelf) (sym same) stands.within;
@@ -87,8 +88,8 @@ keeps_within h x old after among (inl there) within = subst (λ (shelf : List St
 keeps_within h x old after among (inr comes) within = subst (λ (shelf : List Stored). IsWithin h shelf) (sym comes.1) (within_more h x old within among)
 
 -- a prescribed item was put
-pub stands-put : (c c' : Image) (h : List Entry) (x : QueuedItem) → Stands c h → Among x (items h) → c'.file ≡ c.file → Puts (stored_of x) c.shelf c'.shelf → Stands c' h
-stands-put c c' h x stands among same puts = record {
+pub stands-put : (limits : Limits) (c c' : Image) (h : List Entry) (x : QueuedItem) → Stands limits c h → Among x (items h) → c'.file ≡ c.file → Puts (stored_of x) c.shelf c'.shelf → Stands limits c' h
+stands-put limits c c' h x stands among same puts = record {
   history = stands.history;
   file = subst (λ (f : List ℕ). FileOf f h) (sym same) stands.file;
   within = keeps_within h x c.shelf c'.shelf among puts stands.within;
@@ -97,9 +98,9 @@ stands-put c c' h x stands among same puts = record {
 }
 
 -- a prescribed item was put, or wasn't, whatever was answered
-pub stands-put-by : (result : Result (Unit {0}) ShelfFault) (c c' : Image) (h : List Entry) (x : QueuedItem) → Stands c h → Among x (items h) → c'.file ≡ c.file →
-    PutBy result (stored_of x) c.shelf c'.shelf → Stands c' h
-stands-put-by (Ok done) c c' h x stands among same by = stands-put c c' h x stands among same by
-stands-put-by (Err faults.Failed) c c' h x stands among same (inl kept) = stands-same c c' h stands kept (subst (λ (f : List ℕ). FileOf f h) (sym same) stands.file)
-stands-put-by (Err faults.Failed) c c' h x stands among same (inr puts) = stands-put c c' h x stands among same puts
-stands-put-by (Err faults.NoMemory) c c' h x stands among same kept = stands-same c c' h stands kept (subst (λ (f : List ℕ). FileOf f h) (sym same) stands.file)
+pub stands-put-by : (limits : Limits) (result : Result (Unit {0}) ShelfFault) (c c' : Image) (h : List Entry) (x : QueuedItem) → Stands limits c h → Among x (items h) → c'.file ≡ c.file →
+    PutBy result (stored_of x) c.shelf c'.shelf → Stands limits c' h
+stands-put-by limits (Ok done) c c' h x stands among same by = stands-put limits c c' h x stands among same by
+stands-put-by limits (Err faults.Failed) c c' h x stands among same (inl kept) = stands-same limits c c' h stands kept (subst (λ (f : List ℕ). FileOf f h) (sym same) stands.file)
+stands-put-by limits (Err faults.Failed) c c' h x stands among same (inr puts) = stands-put limits c c' h x stands among same puts
+stands-put-by limits (Err faults.NoMemory) c c' h x stands among same kept = stands-same limits c c' h stands kept (subst (λ (f : List ℕ). FileOf f h) (sym same) stands.file)

@@ -1,3 +1,4 @@
 pub mod Growing
+pub mod Opening
 pub mod Stepping
 pub mod Turning

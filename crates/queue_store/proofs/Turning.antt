@@ -7,8 +7,12 @@ use Rattle.mail_names.specs.declared.name.ItemName.{ItemName}
 use Rattle.mail_plan.specs.declared.entry.Entry.{Entry}
 use Rattle.port_io.specs.Causes.{Rose, RoseBy}
 use Rattle.plant_dev.specs.Disk.{State}
+use Rattle.hub_core.specs.declared.limits.Limits.{Limits}
 use Rattle.hub_core.specs.Standing.{Standing, start, standing, state_after}
-use Rattle.queue_store.specs.Ready.{Kept, IsReady}
+use Rattle.queue_store.specs.declared.fault.HubFault.{HubFault}
+use Rattle.queue_store.specs.declared.fault.HubFault.TheVariants as faults
+use Rattle.queue_store.specs.Room.{Fits, IsFull}
+use Rattle.queue_store.specs.Ready.{Kept, IsReady, Adds, Leaves, Stops}
 use Rattle.mail_plan.specs.declared.entry.Entry.TheVariants as entries
 use Rattle.std.proofs.lemmas.Bool.Decides.{nat_tests}
 use Rattle.std.specs.Prelude.{nat_lt}
@@ -16,12 +20,56 @@ use Rattle.hub_core.specs.Standing.{now_of}
 use Rattle.queue_store.specs.Calls.{after_entries, entries_at, entries_all, entries_try, entries_tries, entries_turn, names_waiting, moment_entry, misses}
 
 -- the state goes on by what was added
-pub state-goes : (s s' : State) (hub hub' : Kept) (h es : List Entry) → IsReady s hub h → IsReady s' hub' (h ++ es) → hub'.state ≡ after_entries hub.state es
-state-goes s s' hub hub' h es before after =
-    after.state ∙ fold-append state_after start h es ∙ ap (λ (st : Standing). fold state_after st es) (sym before.state)
+pub state-goes : (limits : Limits) (s s' : State) (hub hub' : Kept) (h es : List Entry) → IsReady limits s hub h → IsReady limits s' hub' (h ++ es) → hub'.state ≡ after_entries hub.state es
+state-goes limits s s' hub hub' h es before after =
+    after.state ∙ fold-append state_after (start limits) h es ∙ ap (λ (st : Standing). fold state_after st es) (sym before.state)
 
-pub ready-joined : (s : State) (hub : Kept) (h xs ys : List Entry) → IsReady s hub ((h ++ xs) ++ ys) → IsReady s hub (h ++ (xs ++ ys))
-ready-joined s hub h xs ys ready = subst (λ (g : List Entry). IsReady s hub g) (append_assoc h xs ys) ready
+fits-joined : (most : ℕ) (h xs ys : List Entry) → Fits most h xs → Fits most (h ++ xs) ys → Fits most h (xs ++ ys)
+fits-joined most h [] ys first second = subst (λ (g : List Entry). Fits most g ys) (append-nil h) second
+fits-joined most h (x ∷ xs) ys first second =
+    (first.0, fits-joined most (h ++ x ∷ []) xs ys first.1 (subst (λ (g : List Entry). Fits most g ys) (sym (append_assoc h (x ∷ []) xs)) second))
+
+-- one run of entries behind another
+pub adds-joined : (limits : Limits) (s s' : State) (hub hub' : Kept) (h xs ys : List Entry) → Adds limits s hub h xs → Adds limits s' hub' (h ++ xs) ys → Adds limits s' hub' h (xs ++ ys)
+adds-joined limits s s' hub hub' h xs ys first second = record {
+  ready = subst (λ (g : List Entry). IsReady limits s' hub' g) (append_assoc h xs ys) second.ready;
+  fits = fits-joined limits.log h xs ys first.fits second.fits;
+}
+
+full-more : (most : ℕ) (h left rest : List Entry) (octets : ℕ) → IsFull most h left octets → IsFull most h (left ++ rest) octets
+full-more most h [] rest octets full = absurd full
+full-more most h (x ∷ left) rest octets full = full
+
+leaves-more : (most : ℕ) (h left rest : List Entry) (e : HubFault) → Leaves most h left e → Leaves most h (left ++ rest) e
+leaves-more most h left rest faults.DiskFault why = why
+leaves-more most h left rest faults.NoMemory why = why
+leaves-more most h left rest (faults.QueueFull live bytes) why = why
+leaves-more most h left rest (faults.LogFull octets) why = full-more most h left rest octets why
+leaves-more most h left rest (faults.NotALog at) why = why
+
+-- a run that stopped, where more was to come
+pub stops-more : (limits : Limits) (s : State) (hub : Kept) (h ys rest : List Entry) (e : HubFault) → Stops limits s hub h ys e → Stops limits s hub h (ys ++ rest) e
+stops-more limits s hub h ys rest e stops = record {
+  added = stops.added;
+  left = stops.left ++ rest;
+  whole = ap (λ (all : List Entry). all ++ rest) stops.whole ∙ append_assoc stops.added stops.left rest;
+  adds = stops.adds;
+  why = leaves-more limits.log (h ++ stops.added) stops.left rest e stops.why;
+}
+
+-- a run that stopped behind another, where more was to come
+pub stops-joined : (limits : Limits) (s s' : State) (hub hub' : Kept) (h xs ys rest : List Entry) (e : HubFault) → Adds limits s hub h xs → Stops limits s' hub' (h ++ xs) ys e →
+    Stops limits s' hub' h (xs ++ (ys ++ rest)) e
+stops-joined limits s s' hub hub' h xs ys rest e first stops = record {
+  added = xs ++ stops.added;
+  left = stops.left ++ rest;
+  whole =
+      ap (λ (all : List Entry). xs ++ (all ++ rest)) stops.whole ∙ ap (λ (all : List Entry). xs ++ all) (append_assoc stops.added stops.left rest)
+      ∙ sym (append_assoc xs stops.added (stops.left ++ rest));
+  adds = adds-joined limits s s' hub hub' h xs stops.added first stops.adds;
+  why = leaves-more limits.log (h ++ (xs ++ stops.added)) stops.left rest e
+      (subst (λ (g : List Entry). Leaves limits.log g stops.left e) (append_assoc h xs stops.added) stops.why);
+}
 
 pub all_step : (count place : ℕ) (s : Standing) → place < count →
     entries_all (count - place) s place ≡ entries_at s place ++ entries_all (count - (place + 1)) (after_entries s (entries_at s place)) (place + 1)
@@ -36,6 +84,13 @@ all_more count place s s' done es whole below is state so_far =
     append_assoc done es (entries_all (count - (place + 1)) s' (place + 1))
     ∙ ap (λ st. done ++ (es ++ entries_all (count - (place + 1)) st (place + 1))) state
     ∙ ap (λ (xs : List Entry). done ++ (xs ++ entries_all (count - (place + 1)) (after_entries s xs) (place + 1))) is
+    ∙ ap (λ xs. done ++ xs) (sym (all_step count place s below)) ∙ so_far
+
+-- stopped at a place
+pub all_stopped : (count place : ℕ) (s : Standing) (done es whole : List Entry) → place < count → es ≡ entries_at s place →
+    done ++ entries_all (count - place) s place ≡ whole → done ++ (es ++ entries_all (count - (place + 1)) (after_entries s es) (place + 1)) ≡ whole
+all_stopped count place s done es whole below is so_far =
+    ap (λ (xs : List Entry). done ++ (xs ++ entries_all (count - (place + 1)) (after_entries s xs) (place + 1))) is
     ∙ ap (λ xs. done ++ xs) (sym (all_step count place s below)) ∙ so_far
 
 -- A front of the names was tried: what is left goes on from there.
@@ -63,6 +118,20 @@ pub Tried-all : (s : Standing) (names : List ItemName) (puts : List Bool) (done 
     left ≡ [] → Tried s names puts done s' left → done ≡ entries_tries s names puts
 Tried-all s names puts done s' left none tried =
     sym (tried.log [] ∙ ap (λ ns. done ++ entries_tries s' ns []) none ∙ append-nil done) ∙ ap (entries_tries s names) (append-nil puts)
+
+tries-end : (s : Standing) (names : List ItemName) → entries_tries s names [] ≡ []
+tries-end s [] = refl
+tries-end s (name ∷ names) = refl
+
+-- stopped at a name, whose put would have been the last
+pub Tried-stopped : (s : Standing) (names : List ItemName) (puts : List Bool) (done : List Entry) (s' : Standing) (i : ℕ) (d name : ItemName) →
+    i < length names → name ≡ get_or names i d → Tried s names puts done s' (drop i names) →
+    done ++ (entries_try s' name true ++ []) ≡ entries_tries s names (puts ++ true ∷ [])
+Tried-stopped s names puts done s' i d name below is tried =
+    let es = entries_try s' name true in
+    let left : drop i names ≡ name ∷ drop (i + 1) names = drop_more names i d below ∙ ap (λ n. n ∷ drop (i + 1) names) (sym is) in
+    ap (λ (xs : List Entry). done ++ (es ++ xs)) (sym (tries-end (after_entries s' es) (drop (i + 1) names)))
+    ∙ sym (tried.log (true ∷ []) ∙ ap (λ ns. done ++ entries_tries s' ns (true ∷ [])) left)
 
 -- a put more: the count of faults rose where it failed
 pub misses-more : (puts : List Bool) (put : Bool) (before mid now : ℕ) → RoseBy (misses puts) before mid → mid ≤ now → (put ≡ false → Rose mid now) → RoseBy (misses (puts ++ put ∷ [])) before now

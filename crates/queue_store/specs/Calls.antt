@@ -9,16 +9,17 @@ use Rattle.hub_core.specs.Release.{release_of}
 use Rattle.mail_plan.specs.declared.intake.Accepted.{Accepted}
 use Rattle.hub_core.specs.declared.command.Reply.{Reply}
 use Rattle.hub_core.specs.declared.command.Reply.TheVariants as replies
-use Rattle.hub_core.specs.Standing.{Standing, state_after, now_of, is_named, place_of_same, uncategorised_of, reply_submit}
+use Rattle.hub_core.specs.Standing.{Standing, state_after, now_of, has_room, is_named, place_of_same, uncategorised_of, reply_submit}
 
 abbrev pub after_entries : Standing → List Entry → Standing
 after_entries s entries = fold state_after s entries
 
 abbrev pub entries_new : Option ℕ → Standing → ℕ → Submitted → List Entry
 entries_new (Some place) s clock submission = []
-entries_new None s clock submission = entries.Accepted (now_of s clock) submission ∷ []
+entries_new None s clock submission =
+    if has_room s submission then entries.Accepted (now_of s clock) submission ∷ [] else []
 
--- what a submission adds: nothing where it repeats one
+-- what a submission adds: nothing where it repeats one, or where the limits leave no room for it
 abbrev pub entries_submit : Standing → ℕ → Submitted → List Entry
 entries_submit s clock submission = entries_new (place_of_same submission s.live) s clock submission
 
@@ -76,4 +77,9 @@ misses puts = count_by not puts
 
 -- The number that a submission is answered with is that of the one that it repeats, or else the next.
 abbrev pub IsAccepted : Standing → Submitted → Accepted → Type 0
-IsAccepted s submission accepted = replies.Accepted accepted.number accepted.repeat ≡ reply_submit s (place_of_same submission s.live)
+IsAccepted s submission accepted =
+    replies.Accepted accepted.number accepted.repeat ≡ reply_submit s submission (place_of_same submission s.live)
+
+-- The limits leave no room for a submission, beside so many and their octets.
+abbrev pub IsQueueFull : Standing → Submitted → ℕ → ℕ → Type 0
+IsQueueFull s submission live bytes = replies.QueueFull live bytes ≡ reply_submit s submission (place_of_same submission s.live)

@@ -16,5 +16,6 @@ fault_of (logs.LogFull length) = faults.LogFull length
 abbrev pub refused : HubFault → IntakeFault
 refused faults.DiskFault = intakes.DiskFault
 refused faults.NoMemory = intakes.NoMemory
+refused (faults.QueueFull live bytes) = intakes.QueueFull live bytes
 refused (faults.LogFull length) = intakes.LogFull length
 refused (faults.NotALog at) = intakes.NotALog at

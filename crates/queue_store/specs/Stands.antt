@@ -6,6 +6,7 @@ use Rattle.plant_dev.specs.declared.plant.Stored.{Stored}
 use Rattle.plant_dev.specs.Disk.{Image}
 use Rattle.plant_dev.specs.Shelf.{Has, item_of}
 use Rattle.queue_disk.specs.Log.{FileOf}
+use Rattle.hub_core.specs.declared.limits.Limits.{Limits}
 use Rattle.hub_core.specs.declared.queue.QueuedItem.{QueuedItem}
 use Rattle.hub_core.specs.Items.{items, Among, IsDelivered, IsHistory}
 
@@ -29,10 +30,10 @@ pub record IsShelved (h : List Entry) (name : ItemName) (shelf : List Stored) : 
   pub named : item.name ≡ name
   pub there : Has item.folder item.name shelf
 
--- The file is the log of the history. Nothing is on the shelf but what the history prescribes, and what it says is
--- delivered is there.
-pub record Stands (c : Image) (h : List Entry) : Type 0 where
-  pub history : IsHistory h
+-- The file is the log of a history under these limits. Nothing is on the shelf but what the history prescribes, and what
+-- it says is delivered is there.
+pub record Stands (limits : Limits) (c : Image) (h : List Entry) : Type 0 where
+  pub history : IsHistory limits h
   pub file : FileOf c.file h
   pub within : IsWithin h c.shelf
   pub delivered : (name : ItemName) → IsDelivered name h → IsShelved h name c.shelf

@@ -8,6 +8,8 @@ pub enum HubFault {
     /// The disk failed, and the count of disk faults rose in this call. The next call first opens the log again.
     DiskFault,
     NoMemory,
+    /// So many submissions, and so many octets of their messages, are remembered, and the limits leave no room.
+    QueueFull { live: u64, bytes: u64 },
     /// The log of so many octets, to its closed gate included, has no room for the entry.
     LogFull { length: u64 },
     /// The file is no log, first at this octet.

@@ -1,24 +1,23 @@
 // The hub: the state of its history, kept in step with the log.
-ghost use Rattle.std.specs.Prelude.{◌≡◌, ◌⊎◌, ◌+◌, List, [], ◌∷◌, ◌++◌, true, false, IsTrue, IsOk, length, IfOk, IfErr, OnOk, IsErrOf, None};
+ghost use Rattle.std.specs.Prelude.{◌≡◌, ◌⊎◌, ◌+◌, List, [], ◌∷◌, ◌++◌, true, false, IsTrue, IsOk, IsOkAnd, length, IfOk, IfErr, OnOk, IsErrOf, None};
 ghost use Rattle.port_io.specs.Causes.{Rose};
 ghost use Rattle.mail_plan.specs.declared.entry.Entry.TheVariants as entries;
 ghost use Rattle.mail_plan.specs.declared.entry.Entry.{Entry};
 ghost use Rattle.plant_dev.specs.Disk.{Stays};
-ghost use Rattle.hub_core.specs.Standing.{is_lawful, now_of, place_of_same, standing};
+ghost use Rattle.hub_core.specs.declared.limits.Limits.{Limits};
+ghost use Rattle.hub_core.specs.Standing.{is_lawful, has_room, now_of, place_of_same};
 
 mod delivery;
+mod opening;
 
 use crate::HubFault;
 use hub_core::{State, StepFault};
 use mail_plan::{Accepted, Entry, Submission};
 use plant_dev::Plant;
 use port_io::Failed;
-use queue_disk::{Log, open_log};
+use queue_disk::Log;
 use std::alloc::Global;
 use std::marker::Model;
-
-/// The most octets of a log.
-const MOST: u64 = 1 << 40;
 
 /// The hub over a plant, which is handed to each call.
 ///
@@ -39,28 +38,9 @@ impl Model for Hub {
 }
 
 impl Hub {
-    ghost use Rattle.queue_store.specs.Stands.{Stands};
-    ghost use Rattle.queue_store.specs.Ready.{IsReady, Follows};
+    ghost use Rattle.queue_store.specs.Ready.{IsReady, Follows, Adds, Declined};
     ghost use Rattle.queue_store.specs.Calls.{entries_submit, IsAccepted};
-
-    /// Opens the hub. A file of at most nine octets becomes a new log.
-    pub fn open_hub<P: Plant>(alloc: Global, plant: &mut P) -> Result<Hub, HubFault>
-        ensures ready { IsTrue (P.state plant.old).honest → Stands (P.state plant.old).image [] → IfOk result (λ hub. IsReady (P.state plant.new) hub []) }
-        ensures never { IsTrue (P.state plant.old).honest → Stands (P.state plant.old).image [] → IfErr result (λ e. (e ≡ HubFault.DiskFault) ⊎ (e ≡ HubFault.NoMemory)) }
-        ensures shelf { IsTrue (P.state plant.old).honest → (P.state plant.new).image.shelf ≡ (P.state plant.old).image.shelf }
-        ensures stays { Stays (P.state plant.old) (P.state plant.new) }
-        ensures cause { IsErrOf result HubFault.DiskFault → Rose (P.state plant.old).disk_faults (P.state plant.new).disk_faults }
-    {
-        let mut log = open_log(plant, MOST)?;
-        match log.next_text(alloc, plant)? {
-            None => Ok(Hub {
-                state: State::start(alloc),
-                log,
-                broken: false,
-            }),
-            Some(_) => Err(HubFault::NotALog { at: log.gate() }),
-        }
-    }
+    ghost use Rattle.queue_store.specs.Refusals.{Refuses};
 
     // Opens the log again where a disk fault broke it off.
     fn mend<P: Plant>(&mut self, alloc: Global, plant: &mut P) -> Result<(), HubFault>
@@ -72,7 +52,7 @@ impl Hub {
         if !self.broken {
             return Ok(());
         }
-        let hub = Hub::open_hub(alloc, plant)?;
+        let hub = Hub::open_hub(alloc, plant, self.state.limits())?;
         *self = hub;
         Ok(())
     }
@@ -85,10 +65,10 @@ impl Hub {
         entry: Entry,
     ) -> Result<(), HubFault>
         requires { is_lawful self.old.state entry ≡ true }
-        ensures ready { (h : List Entry) → IsReady (P.state plant.old) self.old h → Follows h entry (P.state plant.old).image.shelf →
-            OnOk result (IsReady (P.state plant.new) self.new (h ++ entry ∷ [])) }
-        ensures kept { (h : List Entry) → IsReady (P.state plant.old) self.old h →
-            IfErr result (λ e. (e ≡ HubFault.DiskFault) ⊎ IsReady (P.state plant.new) self.new h) }
+        ensures adds { (limits : Limits) (h : List Entry) → IsReady limits (P.state plant.old) self.old h → Follows limits h entry (P.state plant.old).image.shelf →
+            OnOk result (Adds limits (P.state plant.new) self.new h (entry ∷ [])) }
+        ensures declines { (limits : Limits) (h : List Entry) → IsReady limits (P.state plant.old) self.old h →
+            IfErr result (λ e. (e ≡ HubFault.DiskFault) ⊎ Declined limits (P.state plant.new) self.new h (entry ∷ []) e) }
         ensures shelf { IsTrue (P.state plant.old).honest → (P.state plant.new).image.shelf ≡ (P.state plant.old).image.shelf }
         ensures stays { Stays (P.state plant.old) (P.state plant.new) }
         ensures cause { IsErrOf result HubFault.DiskFault → Rose (P.state plant.old).disk_faults (P.state plant.new).disk_faults }
@@ -116,12 +96,14 @@ impl Hub {
         submission: Submission,
         clock: u64,
     ) -> Result<Accepted, HubFault>
-        requires { place_of_same submission self.old.state.live ≡ None }
+        requires repeats_none { place_of_same submission self.old.state.live ≡ None }
+        requires room { has_room self.old.state submission ≡ true }
         ensures accepted { IfOk result (λ accepted. accepted ≡ record { number = length self.old.state.live + 1; repeat = false }) }
-        ensures ready { (h : List Entry) → IsReady (P.state plant.old) self.old h →
-            OnOk result (IsReady (P.state plant.new) self.new (h ++ entries.Accepted (now_of self.old.state clock) submission ∷ [])) }
-        ensures kept { (h : List Entry) → IsReady (P.state plant.old) self.old h →
-            IfErr result (λ e. (e ≡ HubFault.DiskFault) ⊎ IsReady (P.state plant.new) self.new h) }
+        ensures adds { (limits : Limits) (h : List Entry) → IsReady limits (P.state plant.old) self.old h →
+            OnOk result (Adds limits (P.state plant.new) self.new h (entries.Accepted (now_of self.old.state clock) submission ∷ [])) }
+        ensures declines { (limits : Limits) (h : List Entry) → IsReady limits (P.state plant.old) self.old h →
+            IfErr result (λ e. (e ≡ HubFault.DiskFault)
+            ⊎ Declined limits (P.state plant.new) self.new h (entries.Accepted (now_of self.old.state clock) submission ∷ []) e) }
         ensures shelf { IsTrue (P.state plant.old).honest → (P.state plant.new).image.shelf ≡ (P.state plant.old).image.shelf }
         ensures stays { Stays (P.state plant.old) (P.state plant.new) }
         ensures cause { IsErrOf result HubFault.DiskFault → Rose (P.state plant.old).disk_faults (P.state plant.new).disk_faults }
@@ -136,6 +118,8 @@ impl Hub {
     }
 
     /// Accepts a submission at this clock (seconds since 1970-01-01T00:00:00Z), unless it repeats one.
+    ///
+    /// `QueueFull` comes where the limits leave no room for it, after a repeat is known.
     pub fn submit<P: Plant>(
         &mut self,
         alloc: Global,
@@ -144,28 +128,34 @@ impl Hub {
         clock: u64,
     ) -> Result<Accepted, HubFault>
         ensures accepted { self.old.broken ≡ false → IfOk result (IsAccepted self.old.state submission) }
-        ensures ready { (h : List Entry) → IsReady (P.state plant.old) self.old h →
-            OnOk result (IsReady (P.state plant.new) self.new (h ++ entries_submit self.old.state clock submission)) }
-        ensures kept { (h : List Entry) → IsReady (P.state plant.old) self.old h →
-            IfErr result (λ e. (e ≡ HubFault.DiskFault) ⊎ IsReady (P.state plant.new) self.new h) }
+        ensures adds { (limits : Limits) (h : List Entry) → IsReady limits (P.state plant.old) self.old h →
+            OnOk result (Adds limits (P.state plant.new) self.new h (entries_submit self.old.state clock submission)) }
+        ensures declines { (limits : Limits) (h : List Entry) → IsReady limits (P.state plant.old) self.old h →
+            IfErr result (λ e. (e ≡ HubFault.DiskFault) ⊎ Refuses limits (P.state plant.new) self.new h self.old.state submission clock e) }
         ensures shelf { IsTrue (P.state plant.old).honest → (P.state plant.new).image.shelf ≡ (P.state plant.old).image.shelf }
         ensures stays { Stays (P.state plant.old) (P.state plant.new) }
         ensures cause { IsErrOf result HubFault.DiskFault → Rose (P.state plant.old).disk_faults (P.state plant.new).disk_faults }
     {
         self.mend(alloc, plant)?;
-        match self.state.repeat_of(&submission) {
-            Some(number) => Ok(Accepted {
+        if let Some(number) = self.state.repeat_of(&submission) {
+            return Ok(Accepted {
                 number,
                 repeat: true,
-            }),
-            None => self.accept(alloc, plant, submission, clock),
+            });
         }
+        if !self.state.has_room(&submission) {
+            return Err(HubFault::QueueFull {
+                live: self.state.live().len() as u64,
+                bytes: self.state.bytes(),
+            });
+        }
+        self.accept(alloc, plant, submission, clock)
     }
 
     /// The number that the next new submission gets.
     pub fn next_number<P: Plant>(&mut self, alloc: Global, plant: &mut P) -> Result<u64, HubFault>
-        ensures number { self.old.broken ≡ false → IfOk result (λ number. number ≡ length self.old.state.live + 1) }
-        ensures kept { (h : List Entry) → IsReady (P.state plant.old) self.old h → IsReady (P.state plant.new) self.new h }
+        ensures number { self.old.broken ≡ false → IsOkAnd result (λ number. number ≡ length self.old.state.live + 1) }
+        ensures kept { (limits : Limits) (h : List Entry) → IsReady limits (P.state plant.old) self.old h → IsReady limits (P.state plant.new) self.new h }
         ensures stays { Stays (P.state plant.old) (P.state plant.new) }
         ensures cause { IsErrOf result HubFault.DiskFault → Rose (P.state plant.old).disk_faults (P.state plant.new).disk_faults }
     {

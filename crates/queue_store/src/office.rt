@@ -21,6 +21,7 @@ fn refused(fault: HubFault) -> IntakeFault
     match fault {
         HubFault::DiskFault => IntakeFault::DiskFault,
         HubFault::NoMemory => IntakeFault::NoMemory,
+        HubFault::QueueFull { live, bytes } => IntakeFault::QueueFull { live, bytes },
         HubFault::LogFull { length } => IntakeFault::LogFull { length },
         HubFault::NotALog { at } => IntakeFault::NotALog { at },
     }

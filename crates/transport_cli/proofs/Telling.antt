@@ -9,9 +9,10 @@ use Rattle.mail_plan.specs.declared.intake.IntakeStep.{IntakeStep}
 use Rattle.mail_plan.specs.declared.intake.IntakeStep.TheVariants as steps
 use Rattle.plant_dev.specs.Disk.{State, Stays as PlantStays}
 use Rattle.plant_dev.proofs.Moments.{stays_not, stays_more}
-use Rattle.hub_core.specs.Standing.{Standing, standing}
-use Rattle.queue_store.specs.Ready.{Kept, IsReady}
-use Rattle.queue_store.specs.Calls.{entries_submit, IsAccepted}
+use Rattle.hub_core.specs.Standing.{Standing, standing, usual}
+use Rattle.queue_store.specs.Ready.{Kept, IsReady, Adds}
+use Rattle.queue_store.specs.Room.{IsFull}
+use Rattle.queue_store.specs.Calls.{entries_submit, IsAccepted, IsQueueFull}
 use Rattle.queue_store.specs.Office.{Does}
 use Rattle.smtp_front.specs.declared.react.Phase.{Phase}
 use Rattle.smtp_front.specs.declared.react.Phase.TheVariants as phases
@@ -32,7 +33,7 @@ module _ {I : Type 0} (gives : I → IntakeStep → I → Type 0) (state : I →
     (does : (a : I) (step : IntakeStep) (b : I) → gives a step b → Does (state a) (hub a) step (state b) (hub b)) where
   -- the office stands for the history
   abbrev At : I → List Entry → Type 0
-  At a h = IsReady (state a) (hub a) h
+  At a h = IsReady usual (state a) (hub a) h
 
   -- no disk fault is counted from one to the other
   abbrev Quiet : I → I → Type 0
@@ -44,18 +45,32 @@ module _ {I : Type 0} (gives : I → IntakeStep → I → Type 0) (state : I →
     at : At b h'
 
   step_done : (a b : I) (step : IntakeStep) (h : List Entry) → Does (state a) (hub a) step (state b) (hub b) → At a h → Quiet a b → Goes h b (λ h'. HistoryGives h step h')
-  step_done a b (steps.Submit submission clock (Ok accepted)) h d at quiet = record {
-    h' = h ++ entries_submit (standing h) clock submission;
-    told = (subst (λ (s : Standing). IsAccepted s submission accepted) at.state (d.does.answer h at), refl);
-    at = subst (λ (s : Standing). At b (h ++ entries_submit s clock submission)) at.state (d.does.ready h at);
-  }
+  step_done a b (steps.Submit submission clock (Ok accepted)) h d at quiet =
+      let adds = subst (λ (s : Standing). Adds usual (state b) (hub b) h (entries_submit s clock submission)) at.state (d.does.adds usual h at) in
+      record {
+        h' = h ++ entries_submit (standing usual h) clock submission;
+        told = (subst (λ (s : Standing). IsAccepted s submission accepted) at.state (d.does.answer usual h at), refl, adds.fits);
+        at = adds.ready;
+      }
   step_done a b (steps.Submit submission clock (Err faults.DiskFault)) h d at quiet = absurd (quiet d.does)
-  step_done a b (steps.Submit submission clock (Err faults.NoMemory)) h d at quiet = record { h' = h; told = refl; at = d.does h at }
-  step_done a b (steps.Submit submission clock (Err (faults.QueueFull live bytes))) h d at quiet = absurd d.does
-  step_done a b (steps.Submit submission clock (Err (faults.LogFull n))) h d at quiet = record { h' = h; told = refl; at = d.does h at }
-  step_done a b (steps.Submit submission clock (Err (faults.NotALog place))) h d at quiet = record { h' = h; told = refl; at = d.does h at }
+  step_done a b (steps.Submit submission clock (Err faults.NoMemory)) h d at quiet = record { h' = h; told = refl; at = d.does usual h at }
+  step_done a b (steps.Submit submission clock (Err (faults.QueueFull live bytes))) h d at quiet =
+      record { h' = h; told = (refl, subst (λ (s : Standing). IsQueueFull s submission live bytes) at.state (d.does.why usual h at)); at = d.does.ready usual h at }
+  step_done a b (steps.Submit submission clock (Err (faults.LogFull octets))) h d at quiet = record {
+    h' = h;
+    told = (refl, subst (λ (s : Standing). IsFull usual.log h (entries_submit s clock submission) octets) at.state (d.does.why usual h at));
+    at = d.does.ready usual h at;
+  }
+  step_done a b (steps.Submit submission clock (Err (faults.NotALog place))) h d at quiet = absurd (d.does usual h at)
   step_done a b (steps.Submit submission clock (Err (faults.DeskFull calls))) h d at quiet = absurd d.does
-  step_done a b (steps.NextNumber answer) h d at quiet = record { h' = h; told = refl; at = d.does h at }
+  step_done a b (steps.NextNumber (Ok number)) h d at quiet =
+      record { h' = h; told = (refl, subst (λ (s : Standing). number ≡ length s.live + 1) at.state (d.does.why usual h at)); at = d.does.ready usual h at }
+  step_done a b (steps.NextNumber (Err faults.DiskFault)) h d at quiet = absurd (quiet d.does)
+  step_done a b (steps.NextNumber (Err faults.NoMemory)) h d at quiet = absurd (d.does usual h at)
+  step_done a b (steps.NextNumber (Err (faults.QueueFull live bytes))) h d at quiet = absurd d.does
+  step_done a b (steps.NextNumber (Err (faults.LogFull octets))) h d at quiet = absurd (d.does usual h at)
+  step_done a b (steps.NextNumber (Err (faults.NotALog place))) h d at quiet = absurd (d.does usual h at)
+  step_done a b (steps.NextNumber (Err (faults.DeskFull calls))) h d at quiet = absurd d.does
 
   later : (steps : List IntakeStep) (a b : I) → Steps gives a steps b → (state a).disk_faults ≤ (state b).disk_faults
   later [] a b e = subst (λ (x : I). (state a).disk_faults ≤ (state x).disk_faults) e (omega arith)
@@ -222,8 +237,8 @@ module _ {I : Type 0} (gives : I → IntakeStep → I → Type 0) (state : I →
 
   -- A session over the office is one over the history that it stands for.
   pub spoke_told : (end : SessionEnd) (a b : I) (old new : ℕ → Option ℕ) (taken now before left : Option (List ℕ)) (h : List Entry) →
-      Spoke gives a b old new taken now before left end → IsReady (state a) (hub a) h → (Rose (state a).disk_faults (state b).disk_faults → ⊥) →
-      (h' : List Entry) × Spoke HistoryGives h h' old new taken now before left end × IsReady (state b) (hub b) h'
+      Spoke gives a b old new taken now before left end → IsReady usual (state a) (hub a) h → (Rose (state a).disk_faults (state b).disk_faults → ⊥) →
+      (h' : List Entry) × Spoke HistoryGives h h' old new taken now before left end × IsReady usual (state b) (hub b) h'
   spoke_told end a b old new taken now before left h s at quiet =
       let t = spoke_goes end a b old new taken now before left h s at quiet in (t.h', t.told, t.at)
 

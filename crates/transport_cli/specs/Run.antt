@@ -1,10 +1,13 @@
 -- What the command `session` does.
-use Rattle.std.specs.Prelude.{◌≡◌, ℕ, Bool, false, List, [], ◌∷◌, ◌++◌, Option, codes, bytes_eq}
+use Rattle.std.specs.Prelude.{◌≡◌, ◌⊎◌, ℕ, Bool, false, List, [], ◌∷◌, ◌++◌, Option, codes, bytes_eq}
 use Rattle.port_io.specs.Causes.{RoseBy}
 use Rattle.port_io.specs.Told.{Gave}
 use Rattle.mail_plan.specs.declared.entry.Entry.{Entry}
 use Rattle.plant_dev.specs.Disk.{Image}
-use Rattle.hub_core.specs.Standing.{Standing, standing}
+use Rattle.hub_core.specs.Standing.{Standing, standing, usual}
+use Rattle.queue_store.specs.declared.fault.HubFault.{HubFault}
+use Rattle.queue_store.specs.declared.fault.HubFault.TheVariants as faults
+use Rattle.queue_store.specs.Room.{Fits, IsFull}
 use Rattle.queue_store.specs.Stands.{Stands}
 use Rattle.queue_store.specs.Calls.{after_entries, entries_categorise, entries_turn, misses}
 use Rattle.smtp_front.specs.declared.session_end.SessionEnd.{SessionEnd}
@@ -18,26 +21,52 @@ use Rattle.transport_cli.specs.Answers.{HistoryGives}
 abbrev pub entries_finish : Standing → ℕ → List Bool → List Entry
 entries_finish s clock puts = entries_categorise s ++ entries_turn (after_entries s (entries_categorise s)) clock puts
 
--- All was categorised and a turn was made: the image stands for the history with their entries, and as many puts failed
--- as the count of the shelf's faults rose at most.
+-- All was categorised and a turn was made: the image stands for the history with their entries, each of which had room
+-- in the log, and as many puts failed as the count of the shelf's faults rose at most.
 pub record Turned (h : List Entry) (then now : ℕ → Option ℕ) (faults faults' : ℕ) (image : Image) : Type 0 where
   pub turn : ℕ
   pub puts : List Bool
   pub clock : Gave then now (turn ∷ [])
-  pub stands : Stands image (h ++ entries_finish (standing h) turn puts)
+  pub stands : Stands usual image (h ++ entries_finish (standing usual h) turn puts)
+  pub fits : Fits usual.log h (entries_finish (standing usual h) turn puts)
   pub missed : RoseBy (misses puts) faults faults'
 
--- Categorising or the turn was cut short: the image stands for the history with what they had added.
-abbrev pub CutShort : List Entry → Image → Type 0
-CutShort h image = (done : List Entry) × Stands image (h ++ done)
+-- Categorising or the turn was cut short: the image stands for the history with some of their entries, and the others
+-- are left for a reason.
+pub record CutShort (h : List Entry) (then now : ℕ → Option ℕ) (faults faults' : ℕ) (image : Image) (Why : List Entry → List Entry → Type 0) : Type 0 where
+  pub turn : ℕ
+  pub puts : List Bool
+  pub added : List Entry
+  pub left : List Entry
+  pub clock : Gave then now [] ⊎ Gave then now (turn ∷ [])
+  pub whole : entries_finish (standing usual h) turn puts ≡ added ++ left
+  pub stands : Stands usual image (h ++ added)
+  pub fits : Fits usual.log h added
+  pub why : Why (h ++ added) left
+  pub missed : RoseBy (misses puts) faults faults'
+
+-- memory ran out
+abbrev pub Starved : List Entry → List Entry → Type 0
+Starved h left = Unit {0}
+
+-- the next entry has no room in the log
+abbrev pub Overfull : List Entry → List Entry → Type 0
+Overfull h left = (octets : ℕ) × IsFull usual.log h left octets
 
 -- how a session ended that was read to its end or to QUIT, by the status of what followed
 abbrev pub Finishes : List Entry → (ℕ → Option ℕ) → (ℕ → Option ℕ) → ℕ → ℕ → Image → Status → Type 0
 Finishes h then now faults faults' image statuses.Done = Turned h then now faults faults' image
-Finishes h then now faults faults' image statuses.NoMemory = CutShort h image
-Finishes h then now faults faults' image statuses.LogFull = CutShort h image
-Finishes h then now faults faults' image statuses.NotALog = CutShort h image
+Finishes h then now faults faults' image statuses.NoMemory = CutShort h then now faults faults' image Starved
+Finishes h then now faults faults' image statuses.LogFull = CutShort h then now faults faults' image Overfull
 Finishes h then now faults faults' image status = ⊥
+
+-- The status of a call that the hub refused. Only a submission meets a full queue.
+abbrev pub refused : HubFault → Status
+refused faults.DiskFault = statuses.DiskFault
+refused faults.NoMemory = statuses.NoMemory
+refused (faults.QueueFull live bytes) = statuses.NoMemory
+refused (faults.LogFull octets) = statuses.LogFull
+refused (faults.NotALog at) = statuses.NotALog
 
 -- the status of a session that ended otherwise
 abbrev pub status_of : SessionEnd → Status
@@ -56,7 +85,7 @@ status_of ends.TooLong = statuses.TooLong
 pub record Stops (h : List Entry) (then now : ℕ → Option ℕ) (image : Image) (end : SessionEnd) (status : Status) : Type 0 where
   pub status_is : status ≡ status_of end
   pub clock : Gave then now []
-  pub stands : Stands image h
+  pub stands : Stands usual image h
 
 -- what follows a session that ended so
 abbrev pub Ends : SessionEnd → List Entry → (ℕ → Option ℕ) → (ℕ → Option ℕ) → ℕ → ℕ → Image → Status → Type 0

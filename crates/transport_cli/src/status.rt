@@ -1,6 +1,6 @@
 // How a call of the program ends.
 ghost use Rattle.std.specs.Prelude.{◌≡◌};
-ghost use Rattle.transport_cli.specs.Run.{status_of};
+ghost use Rattle.transport_cli.specs.Run.{refused, status_of};
 
 use queue_store::HubFault;
 use smtp_front::SessionEnd;
@@ -49,6 +49,7 @@ impl Status {
 
 /// The status of a call that the hub refused.
 pub fn refused(fault: HubFault) -> Status
+    ensures value { result ≡ refused fault }
     ensures memory { fault ≡ HubFault.NoMemory → result ≡ Status.NoMemory }
     ensures disk { result ≡ Status.DiskFault → fault ≡ HubFault.DiskFault }
     ensures source { result ≡ Status.SourceFault → ⊥ }
@@ -60,7 +61,8 @@ pub fn refused(fault: HubFault) -> Status
 {
     match fault {
         HubFault::DiskFault => Status::DiskFault,
-        HubFault::NoMemory => Status::NoMemory,
+        // Only a submission meets a full queue, and it has a reply of its own.
+        HubFault::NoMemory | HubFault::QueueFull { .. } => Status::NoMemory,
         HubFault::LogFull { .. } => Status::LogFull,
         HubFault::NotALog { .. } => Status::NotALog,
     }

@@ -4,6 +4,7 @@ ghost use Rattle.std.specs.Io.KnownBytes.{Appends};
 ghost use Rattle.port_io.specs.Causes.{Rose};
 ghost use Rattle.mail_plan.specs.declared.entry.Entry.{Entry};
 ghost use Rattle.plant_dev.specs.Disk.{Stays};
+ghost use Rattle.hub_core.specs.Standing.{usual};
 ghost use Rattle.queue_store.specs.Stands.{Stands};
 ghost use Rattle.queue_store.specs.Ready.{IsReady};
 ghost use Rattle.smtp_front.specs.Sessions.{Spoke};
@@ -11,6 +12,7 @@ ghost use Rattle.transport_cli.specs.Answers.{HistoryGives};
 ghost use Rattle.transport_cli.specs.Run.{Ends, Finishes, Ran, is_session, usage_text};
 
 use crate::status::{Status, ended, refused};
+use hub_core::Limits;
 use plant_dev::Plant;
 use port_io::{Clock, Sink, Source, write_all_to};
 use queue_store::{Hub, LocalOffice};
@@ -29,10 +31,10 @@ fn speak<P: Plant, S: Source, K: Sink, C: Clock>(
     clock: &mut C,
 ) -> SessionEnd
     ensures same { (office.new.hub.ghost_name ≡ office.old.hub.ghost_name) × (office.new.plant.ghost_name ≡ office.old.plant.ghost_name) }
-    ensures spoke { (h : List Entry) → IsReady (P.state office.old.plant.now) office.old.hub.now h →
+    ensures spoke { (h : List Entry) → IsReady usual (P.state office.old.plant.now) office.old.hub.now h →
         (Rose (P.state office.old.plant.now).disk_faults (P.state office.new.plant.now).disk_faults → ⊥) →
         (h' : List Entry) × Spoke HistoryGives h h' (C.moments clock.old) (C.moments clock.new) (K.taken sink.old) (K.taken sink.new) (S.left source.old) (S.left source.new) result
-        × IsReady (P.state office.new.plant.now) office.new.hub.now h' }
+        × IsReady usual (P.state office.new.plant.now) office.new.hub.now h' }
     ensures stays { Stays (P.state office.old.plant.now) (P.state office.new.plant.now) }
     ensures source { result ≡ SessionEnd.SourceFault → Rose (S.faults source.old) (S.faults source.new) }
     ensures sink { result ≡ SessionEnd.SinkFault → Rose (K.faults sink.old) (K.faults sink.new) }
@@ -49,9 +51,9 @@ fn converse<P: Plant, S: Source, K: Sink, C: Clock>(
     sink: &mut K,
     clock: &mut C,
 ) -> SessionEnd
-    ensures spoke { (h : List Entry) → IsReady (P.state plant.old) hub.old h → (Rose (P.state plant.old).disk_faults (P.state plant.new).disk_faults → ⊥) →
+    ensures spoke { (h : List Entry) → IsReady usual (P.state plant.old) hub.old h → (Rose (P.state plant.old).disk_faults (P.state plant.new).disk_faults → ⊥) →
         (h' : List Entry) × Spoke HistoryGives h h' (C.moments clock.old) (C.moments clock.new) (K.taken sink.old) (K.taken sink.new) (S.left source.old) (S.left source.new) result
-        × IsReady (P.state plant.new) hub.new h' }
+        × IsReady usual (P.state plant.new) hub.new h' }
     ensures stays { Stays (P.state plant.old) (P.state plant.new) }
     ensures source { result ≡ SessionEnd.SourceFault → Rose (S.faults source.old) (S.faults source.new) }
     ensures sink { result ≡ SessionEnd.SinkFault → Rose (K.faults sink.old) (K.faults sink.new) }
@@ -62,7 +64,7 @@ fn converse<P: Plant, S: Source, K: Sink, C: Clock>(
 
 // Categorises all, and makes a turn.
 fn finish<P: Plant, C: Clock>(alloc: Global, hub: &mut Hub, plant: &mut P, clock: &mut C) -> Status
-    ensures finishes { (h : List Entry) → IsReady (P.state plant.old) hub.old h → (Rose (P.state plant.old).disk_faults (P.state plant.new).disk_faults → ⊥) →
+    ensures finishes { (h : List Entry) → IsReady usual (P.state plant.old) hub.old h → (Rose (P.state plant.old).disk_faults (P.state plant.new).disk_faults → ⊥) →
         Finishes h (C.moments clock.old) (C.moments clock.new) (P.state plant.old).shelf_faults (P.state plant.new).shelf_faults (P.state plant.new).image result }
     ensures stays { Stays (P.state plant.old) (P.state plant.new) }
     ensures disk { result ≡ Status.DiskFault → Rose (P.state plant.old).disk_faults (P.state plant.new).disk_faults }
@@ -89,7 +91,7 @@ fn follow<P: Plant, C: Clock>(
     clock: &mut C,
     end: SessionEnd,
 ) -> Status
-    ensures ends { (h : List Entry) → IsReady (P.state plant.old) hub.old h → (Rose (P.state plant.old).disk_faults (P.state plant.new).disk_faults → ⊥) →
+    ensures ends { (h : List Entry) → IsReady usual (P.state plant.old) hub.old h → (Rose (P.state plant.old).disk_faults (P.state plant.new).disk_faults → ⊥) →
         Ends end h (C.moments clock.old) (C.moments clock.new) (P.state plant.old).shelf_faults (P.state plant.new).shelf_faults (P.state plant.new).image result }
     ensures stays { Stays (P.state plant.old) (P.state plant.new) }
     ensures disk { result ≡ Status.DiskFault → Rose (P.state plant.old).disk_faults (P.state plant.new).disk_faults }
@@ -112,15 +114,15 @@ fn run_session<P: Plant, S: Source, K: Sink, C: Clock>(
     plant: &mut P,
     clock: &mut C,
 ) -> Status
-    ensures ran { IsTrue (P.state plant.old).honest → Stands (P.state plant.old).image [] → (Rose (P.state plant.old).disk_faults (P.state plant.new).disk_faults → ⊥) →
-        (result ≡ Status.NoMemory) ⊎ Ran [] (C.moments clock.old) (C.moments clock.new) (K.taken sink.old) (K.taken sink.new) (S.left source.old) (S.left source.new)
+    ensures ran { (h : List Entry) → IsTrue (P.state plant.old).honest → Stands usual (P.state plant.old).image h → (Rose (P.state plant.old).disk_faults (P.state plant.new).disk_faults → ⊥) →
+        (result ≡ Status.NoMemory) ⊎ Ran h (C.moments clock.old) (C.moments clock.new) (K.taken sink.old) (K.taken sink.new) (S.left source.old) (S.left source.new)
         (P.state plant.old).shelf_faults (P.state plant.new).shelf_faults (P.state plant.new).image result }
     ensures disk { result ≡ Status.DiskFault → Rose (P.state plant.old).disk_faults (P.state plant.new).disk_faults }
     ensures source { result ≡ Status.SourceFault → Rose (S.faults source.old) (S.faults source.new) }
     ensures sink { result ≡ Status.SinkFault → Rose (K.faults sink.old) (K.faults sink.new) }
     ensures usage { result ≡ Status.Usage → ⊥ }
 {
-    match Hub::open_hub(alloc, plant) {
+    match Hub::open_hub(alloc, plant, Limits::usual()) {
         Err(fault) => refused(fault),
         Ok(hub) => {
             let mut hub = hub;
@@ -152,11 +154,11 @@ pub fn transport<S: Source, K: Sink, P: Plant, C: Clock>(
     plant: &mut P,
     clock: &mut C,
 ) -> Status
-    // Where no disk fault is counted, a session over an honest plant that stands for the empty history does what the
-    // definitions say, and the plant stands for the history that it leaves.
-    ensures session { is_session (map (λ word. word.now) words.now) ≡ true → IsTrue (P.state plant.old).honest → Stands (P.state plant.old).image [] →
+    // Where no disk fault is counted, a session over an honest plant that stands for a history does what the definitions
+    // say from there, and the plant stands for the history that it leaves.
+    ensures session { (h : List Entry) → is_session (map (λ word. word.now) words.now) ≡ true → IsTrue (P.state plant.old).honest → Stands usual (P.state plant.old).image h →
         (Rose (P.state plant.old).disk_faults (P.state plant.new).disk_faults → ⊥) →
-        (result ≡ Status.NoMemory) ⊎ Ran [] (C.moments clock.old) (C.moments clock.new) (K.taken sink.old) (K.taken sink.new) (S.left source.old) (S.left source.new)
+        (result ≡ Status.NoMemory) ⊎ Ran h (C.moments clock.old) (C.moments clock.new) (K.taken sink.old) (K.taken sink.new) (S.left source.old) (S.left source.new)
         (P.state plant.old).shelf_faults (P.state plant.new).shelf_faults (P.state plant.new).image result }
     ensures usage { result ≡ Status.Usage → is_session (map (λ word. word.now) words.now) ≡ false }
     ensures usage_text { result ≡ Status.Usage → Appends (K.taken sink.old) (K.taken sink.new) usage_text }

@@ -5,7 +5,8 @@ ghost use Rattle.mail_plan.specs.declared.entry.Entry.{Entry};
 ghost use Rattle.plant_dev.specs.Disk.{Stays};
 ghost use Rattle.plant_dev.specs.Shelf.{Has};
 ghost use Rattle.hub_core.specs.Items.{items, Among};
-ghost use Rattle.queue_store.specs.Ready.{Kept, IsReady};
+ghost use Rattle.hub_core.specs.declared.limits.Limits.{Limits};
+ghost use Rattle.queue_store.specs.Ready.{Kept, IsReady, Adds, Declined, Stops};
 
 use super::Hub;
 use crate::HubFault;
@@ -26,10 +27,10 @@ impl Hub {
         place: usize,
     ) -> Result<(), HubFault>
         requires { place + 1 < 2 ^ 64 }
-        ensures ready { (h : List Entry) → IsReady (P.state plant.old) self.old h →
-            OnOk result (IsReady (P.state plant.new) self.new (h ++ entries_at self.old.state place)) }
-        ensures kept { (h : List Entry) → IsReady (P.state plant.old) self.old h →
-            IfErr result (λ e. (e ≡ HubFault.DiskFault) ⊎ IsReady (P.state plant.new) self.new h) }
+        ensures adds { (limits : Limits) (h : List Entry) → IsReady limits (P.state plant.old) self.old h →
+            OnOk result (Adds limits (P.state plant.new) self.new h (entries_at self.old.state place)) }
+        ensures declines { (limits : Limits) (h : List Entry) → IsReady limits (P.state plant.old) self.old h →
+            IfErr result (λ e. (e ≡ HubFault.DiskFault) ⊎ Declined limits (P.state plant.new) self.new h (entries_at self.old.state place) e) }
         ensures stays { Stays (P.state plant.old) (P.state plant.new) }
         ensures cause { IsErrOf result HubFault.DiskFault → Rose (P.state plant.old).disk_faults (P.state plant.new).disk_faults }
     {
@@ -55,10 +56,10 @@ impl Hub {
         plant: &mut P,
         name: ItemName,
     ) -> Result<bool, HubFault>
-        ensures ready { (h : List Entry) → IsReady (P.state plant.old) self.old h →
-            IfOk result (λ put. IsReady (P.state plant.new) self.new (h ++ entries_try self.old.state name put)) }
-        ensures kept { (h : List Entry) → IsReady (P.state plant.old) self.old h →
-            IfErr result (λ e. (e ≡ HubFault.DiskFault) ⊎ IsReady (P.state plant.new) self.new h) }
+        ensures adds { (limits : Limits) (h : List Entry) → IsReady limits (P.state plant.old) self.old h →
+            IfOk result (λ put. Adds limits (P.state plant.new) self.new h (entries_try self.old.state name put)) }
+        ensures declines { (limits : Limits) (h : List Entry) → IsReady limits (P.state plant.old) self.old h →
+            IfErr result (λ e. (e ≡ HubFault.DiskFault) ⊎ Declined limits (P.state plant.new) self.new h (entries_try self.old.state name true) e) }
         ensures missed { result ≡ Ok false → Rose (P.state plant.old).shelf_faults (P.state plant.new).shelf_faults }
         ensures stays { Stays (P.state plant.old) (P.state plant.new) }
         ensures cause { IsErrOf result HubFault.DiskFault → Rose (P.state plant.old).disk_faults (P.state plant.new).disk_faults }
@@ -78,10 +79,10 @@ impl Hub {
 
     // Categorises each submission that isn't, where the log is open.
     fn categorise_each<P: Plant>(&mut self, alloc: Global, plant: &mut P) -> Result<(), HubFault>
-        ensures ready { (h : List Entry) → IsReady (P.state plant.old) self.old h →
-            OnOk result (IsReady (P.state plant.new) self.new (h ++ entries_categorise self.old.state)) }
-        ensures kept { (h : List Entry) → IsReady (P.state plant.old) self.old h →
-            IfErr result (λ e. (e ≡ HubFault.DiskFault) ⊎ ((done : List Entry) × IsReady (P.state plant.new) self.new (h ++ done))) }
+        ensures adds { (limits : Limits) (h : List Entry) → IsReady limits (P.state plant.old) self.old h →
+            OnOk result (Adds limits (P.state plant.new) self.new h (entries_categorise self.old.state)) }
+        ensures stops { (limits : Limits) (h : List Entry) → IsReady limits (P.state plant.old) self.old h →
+            IfErr result (λ e. (e ≡ HubFault.DiskFault) ⊎ Stops limits (P.state plant.new) self.new h (entries_categorise self.old.state) e) }
         ensures stays { Stays (P.state plant.old) (P.state plant.new) }
         ensures cause { IsErrOf result HubFault.DiskFault → Rose (P.state plant.old).disk_faults (P.state plant.new).disk_faults }
     {
@@ -97,10 +98,10 @@ impl Hub {
 
     /// Categorises each submission that isn't, in the order of their numbers.
     pub fn categorise_all<P: Plant>(&mut self, alloc: Global, plant: &mut P) -> Result<(), HubFault>
-        ensures ready { (h : List Entry) → IsReady (P.state plant.old) self.old h →
-            OnOk result (IsReady (P.state plant.new) self.new (h ++ entries_categorise self.old.state)) }
-        ensures kept { (h : List Entry) → IsReady (P.state plant.old) self.old h →
-            IfErr result (λ e. (e ≡ HubFault.DiskFault) ⊎ ((done : List Entry) × IsReady (P.state plant.new) self.new (h ++ done))) }
+        ensures adds { (limits : Limits) (h : List Entry) → IsReady limits (P.state plant.old) self.old h →
+            OnOk result (Adds limits (P.state plant.new) self.new h (entries_categorise self.old.state)) }
+        ensures stops { (limits : Limits) (h : List Entry) → IsReady limits (P.state plant.old) self.old h →
+            IfErr result (λ e. (e ≡ HubFault.DiskFault) ⊎ Stops limits (P.state plant.new) self.new h (entries_categorise self.old.state) e) }
         ensures stays { Stays (P.state plant.old) (P.state plant.new) }
         ensures cause { IsErrOf result HubFault.DiskFault → Rose (P.state plant.old).disk_faults (P.state plant.new).disk_faults }
     {
@@ -115,11 +116,13 @@ impl Hub {
         plant: &mut P,
         names: &[ItemName],
     ) -> Result<(), HubFault>
-        ensures ready { (h : List Entry) → IsReady (P.state plant.old) self.old h → OnOk result ((puts : List Bool)
-            × IsReady (P.state plant.new) self.new (h ++ entries_tries self.old.state names.now puts)
+        ensures adds { (limits : Limits) (h : List Entry) → IsReady limits (P.state plant.old) self.old h → OnOk result ((puts : List Bool)
+            × Adds limits (P.state plant.new) self.new h (entries_tries self.old.state names.now puts)
             × RoseBy (misses puts) (P.state plant.old).shelf_faults (P.state plant.new).shelf_faults) }
-        ensures kept { (h : List Entry) → IsReady (P.state plant.old) self.old h →
-            IfErr result (λ e. (e ≡ HubFault.DiskFault) ⊎ ((done : List Entry) × IsReady (P.state plant.new) self.new (h ++ done))) }
+        ensures stops { (limits : Limits) (h : List Entry) → IsReady limits (P.state plant.old) self.old h →
+            IfErr result (λ e. (e ≡ HubFault.DiskFault) ⊎ ((puts : List Bool)
+            × Stops limits (P.state plant.new) self.new h (entries_tries self.old.state names.now puts) e
+            × RoseBy (misses puts) (P.state plant.old).shelf_faults (P.state plant.new).shelf_faults)) }
         ensures stays { Stays (P.state plant.old) (P.state plant.new) }
         ensures cause { IsErrOf result HubFault.DiskFault → Rose (P.state plant.old).disk_faults (P.state plant.new).disk_faults }
     {
@@ -140,11 +143,13 @@ impl Hub {
         clock: u64,
     ) -> Result<(), HubFault>
         requires { 0 < length self.old.state.waiting }
-        ensures ready { (h : List Entry) → IsReady (P.state plant.old) self.old h → OnOk result ((puts : List Bool)
-            × IsReady (P.state plant.new) self.new (h ++ entries_turn self.old.state clock puts)
+        ensures adds { (limits : Limits) (h : List Entry) → IsReady limits (P.state plant.old) self.old h → OnOk result ((puts : List Bool)
+            × Adds limits (P.state plant.new) self.new h (entries_turn self.old.state clock puts)
             × RoseBy (misses puts) (P.state plant.old).shelf_faults (P.state plant.new).shelf_faults) }
-        ensures kept { (h : List Entry) → IsReady (P.state plant.old) self.old h →
-            IfErr result (λ e. (e ≡ HubFault.DiskFault) ⊎ ((done : List Entry) × IsReady (P.state plant.new) self.new (h ++ done))) }
+        ensures stops { (limits : Limits) (h : List Entry) → IsReady limits (P.state plant.old) self.old h →
+            IfErr result (λ e. (e ≡ HubFault.DiskFault) ⊎ ((puts : List Bool)
+            × Stops limits (P.state plant.new) self.new h (entries_turn self.old.state clock puts) e
+            × RoseBy (misses puts) (P.state plant.old).shelf_faults (P.state plant.new).shelf_faults)) }
         ensures stays { Stays (P.state plant.old) (P.state plant.new) }
         ensures cause { IsErrOf result HubFault.DiskFault → Rose (P.state plant.old).disk_faults (P.state plant.new).disk_faults }
     {
@@ -167,11 +172,13 @@ impl Hub {
         plant: &mut P,
         clock: u64,
     ) -> Result<(), HubFault>
-        ensures ready { (h : List Entry) → IsReady (P.state plant.old) self.old h → OnOk result ((puts : List Bool)
-            × IsReady (P.state plant.new) self.new (h ++ entries_turn self.old.state clock puts)
+        ensures adds { (limits : Limits) (h : List Entry) → IsReady limits (P.state plant.old) self.old h → OnOk result ((puts : List Bool)
+            × Adds limits (P.state plant.new) self.new h (entries_turn self.old.state clock puts)
             × RoseBy (misses puts) (P.state plant.old).shelf_faults (P.state plant.new).shelf_faults) }
-        ensures kept { (h : List Entry) → IsReady (P.state plant.old) self.old h →
-            IfErr result (λ e. (e ≡ HubFault.DiskFault) ⊎ ((done : List Entry) × IsReady (P.state plant.new) self.new (h ++ done))) }
+        ensures stops { (limits : Limits) (h : List Entry) → IsReady limits (P.state plant.old) self.old h →
+            IfErr result (λ e. (e ≡ HubFault.DiskFault) ⊎ ((puts : List Bool)
+            × Stops limits (P.state plant.new) self.new h (entries_turn self.old.state clock puts) e
+            × RoseBy (misses puts) (P.state plant.old).shelf_faults (P.state plant.new).shelf_faults)) }
         ensures stays { Stays (P.state plant.old) (P.state plant.new) }
         ensures cause { IsErrOf result HubFault.DiskFault → Rose (P.state plant.old).disk_faults (P.state plant.new).disk_faults }
     {
@@ -185,7 +192,7 @@ impl Hub {
 
 // Puts an item into its folder. The answer is false where the shelf failed.
 fn shelve<P: Plant>(alloc: Global, plant: &mut P, item: &QueuedItem) -> Result<bool, HubFault>
-    ensures ready { (h : List Entry) (hub : Kept) → IsReady (P.state plant.old) hub h → Among item.now (items h) → IsReady (P.state plant.new) hub h }
+    ensures ready { (limits : Limits) (h : List Entry) (hub : Kept) → IsReady limits (P.state plant.old) hub h → Among item.now (items h) → IsReady limits (P.state plant.new) hub h }
     ensures there { IsTrue (P.state plant.old).honest → result ≡ Ok true → Has item.now.folder item.now.name (P.state plant.new).image.shelf }
     ensures missed { result ≡ Ok false → Rose (P.state plant.old).shelf_faults (P.state plant.new).shelf_faults }
     ensures only { IfErr result (λ e. e ≡ HubFault.NoMemory) }

@@ -2,7 +2,7 @@ use Rattle.std.proofs.Common.{[], ◌∷◌}
 use Rattle.mail_names.specs.Key.{IsKey}
 use Rattle.mail_plan.specs.EntryText.{le32, form_bytes, form_name, form_item}
 use Rattle.mail_plan.specs.Entries.{IsU32, IsName, IsItem}
-use Rattle.mail_plan.proofs.Standing.{There, first, behind, behind_text}
+use Rattle.mail_plan.proofs.Standing.{first, behind, behind_text}
 use Rattle.mail_plan.proofs.Forms.{one_key, one_name}
 use Rattle.mail_plan.proofs.Parts.{passed_on, text_passed_on}
 use Rattle.mail_plan.proofs.fields.item_at.Goals as goal

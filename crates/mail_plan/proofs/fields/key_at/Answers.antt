@@ -1,9 +1,5 @@
 use Rattle.std.proofs.Common.{ap, Err}
-use Rattle.mail_names.specs.Key.{IsKey}
-use Rattle.mail_plan.specs.EntryText.{form_bytes}
-use Rattle.mail_plan.specs.Reading.{Reads}
 use Rattle.mail_plan.specs.declared.places.Miss.{Miss}
-use Rattle.mail_plan.proofs.Forms.{key_short}
 use Rattle.mail_plan.proofs.Parts.{no_key}
 use Rattle.mail_plan.proofs.fields.key_at.Goals as goal
 

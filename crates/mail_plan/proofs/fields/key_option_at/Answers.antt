@@ -1,7 +1,7 @@
-use Rattle.std.proofs.Common.{ℕ, [], ◌∷◌, List, Option, Some, None, arith}
+use Rattle.std.proofs.Common.{ℕ, [], ◌∷◌, List, Some, None, arith}
 use Rattle.mail_plan.specs.EntryText.{form_bytes, form_key_option}
 use Rattle.mail_plan.specs.Entries.{IsKeyOption}
-use Rattle.mail_plan.proofs.Standing.{There, first}
+use Rattle.mail_plan.proofs.Standing.{first}
 use Rattle.mail_plan.proofs.Parts.{HasPart, passed_on, IsByte, form_byte}
 use Rattle.mail_plan.proofs.fields.key_option_at.Goals as goal
 

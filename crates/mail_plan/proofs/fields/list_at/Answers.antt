@@ -2,7 +2,7 @@ use Rattle.std.proofs.Common.{◌≡◌, length}
 use Rattle.std.specs.List.{flat_map, AllByRecursion}
 use Rattle.mail_plan.specs.EntryText.{le32, form_all}
 use Rattle.mail_plan.specs.Entries.{IsU32, IsListOf}
-use Rattle.mail_plan.proofs.Standing.{There, first, same, behind}
+use Rattle.mail_plan.proofs.Standing.{first, same, behind}
 use Rattle.mail_plan.proofs.Forms.{one_le32}
 use Rattle.mail_plan.proofs.Parts.{passed_on}
 use Rattle.mail_plan.proofs.fields.list_at.Goals as goal

@@ -1,6 +1,6 @@
 use Rattle.mail_plan.specs.EntryText.{le32, le64, form_mark, form_name}
 use Rattle.mail_plan.specs.Entries.{IsU32, IsU64, IsName}
-use Rattle.mail_plan.proofs.Standing.{There, first, behind}
+use Rattle.mail_plan.proofs.Standing.{first, behind}
 use Rattle.mail_plan.proofs.Forms.{IsMark, one_le32, one_le64}
 use Rattle.mail_plan.proofs.Parts.{passed_on}
 use Rattle.mail_plan.proofs.fields.name_at.Goals as goal

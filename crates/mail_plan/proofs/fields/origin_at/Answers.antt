@@ -1,10 +1,8 @@
 use Rattle.std.proofs.Common.{ℕ, [], ◌∷◌, List, arith}
 use Rattle.mail_plan.specs.EntryText.{form_bytes, form_origin}
 use Rattle.mail_plan.specs.Entries.{IsOrigin}
-use Rattle.mail_plan.specs.Reading.{Stands}
-use Rattle.mail_plan.specs.declared.submission.Origin.{Origin}
 use Rattle.mail_plan.specs.declared.submission.Origin.TheVariants as origins
-use Rattle.mail_plan.proofs.Standing.{There, first}
+use Rattle.mail_plan.proofs.Standing.{first}
 use Rattle.mail_plan.proofs.Parts.{HasPart, passed_on, IsByte, form_byte}
 use Rattle.mail_plan.proofs.fields.origin_at.Goals as goal
 

@@ -2,7 +2,7 @@ use Rattle.std.proofs.Common.{◌≡◌, ◌++◌, [], ◌∷◌, List, ℕ, ref
 use Rattle.mail_plan.specs.EntryText.{le32, form_bytes, form_all, form_item, form_release}
 use Rattle.mail_plan.specs.Entries.{IsBytes, IsListOf, IsItem, IsRelease}
 use Rattle.mail_plan.specs.Reading.{Stands}
-use Rattle.mail_plan.proofs.Standing.{There, both, first, behind}
+use Rattle.mail_plan.proofs.Standing.{both, first, behind}
 use Rattle.mail_plan.proofs.Forms.{one_bytes, one_item, one_list}
 use Rattle.mail_plan.proofs.Parts.{passed_on, text_passed_on}
 use Rattle.mail_plan.proofs.fields.release_at.Goals as goal

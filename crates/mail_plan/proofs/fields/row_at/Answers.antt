@@ -1,4 +1,4 @@
-use Rattle.std.proofs.Common.{◌≡◌, List, length, arith}
+use Rattle.std.proofs.Common.{◌≡◌, length, arith}
 use Rattle.std.specs.List.{flat_map, AllByRecursion}
 use Rattle.mail_plan.proofs.Parts.{passed_on, next}
 use Rattle.mail_plan.proofs.fields.row_at.Goals as goal

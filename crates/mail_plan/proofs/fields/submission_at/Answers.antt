@@ -1,4 +1,4 @@
-use Rattle.std.proofs.Common.{◌≡◌, ◌++◌, Ok, Err, sym, ◌∙◌, ap, subst, Option, List, ℕ}
+use Rattle.std.proofs.Common.{Ok, Err, sym, ◌∙◌, ap, subst, Option, List, ℕ}
 use Rattle.mail_names.specs.Key.{IsKey}
 use Rattle.mail_plan.specs.EntryText.{form_bytes, form_key_option, form_all, form_origin, form_submission}
 use Rattle.mail_plan.specs.Entries.{IsBytes, IsKeyOption, IsListOf, IsOrigin, IsSubmission}
@@ -6,7 +6,7 @@ use Rattle.mail_plan.specs.Reading.{Stands}
 use Rattle.mail_plan.specs.Submission.{Submitted, submission_of}
 use Rattle.mail_plan.specs.declared.submission.Origin.{Origin}
 use Rattle.mail_plan.specs.declared.places.Miss.{Miss}
-use Rattle.mail_plan.proofs.Standing.{There, both, first, same, same_last, behind}
+use Rattle.mail_plan.proofs.Standing.{both, first, same, same_last, behind}
 use Rattle.mail_plan.proofs.Forms.{one_bytes, one_key, one_key_option, one_origin, one_list}
 use Rattle.mail_plan.proofs.Parts.{passed_on, refused}
 use Rattle.mail_plan.proofs.Made.{made_of}

@@ -1,5 +1,5 @@
 use Rattle.std.proofs.Common.{rules}
-use Rattle.queue_disk.proofs.Numbers.{le64_of}
+use Rattle.mail_plan.proofs.Numbers.{le64_of}
 use Rattle.queue_disk.proofs.read.number.Goals as goal
 
 pub returns : goal.returns

@@ -1,23 +1,30 @@
-use Rattle.std.proofs.Common.{◌≡◌, ◌≤◌, ◌+◌, [], ap, inl, inr, arith, Err}
+use Rattle.std.proofs.Common.{◌≡◌, ◌≤◌, ◌+◌, [], ap, inl, inr, arith, Err, sym, subst}
+use Rattle.hub_core.specs.declared.limits.Limits.{Limits}
+use Rattle.hub_core.specs.Items.{IsHistory}
+use Rattle.queue_store.specs.Stands.{Stands}
+use Rattle.queue_store.specs.Ready.{IsReady}
 use Rattle.transport_cli.proofs.Running.{rose_within, ends_within}
 use Rattle.transport_cli.proofs.transport.run_session.Goals as goal
 
 pub returns-in-Err-clause-ran : goal.returns-in-Err-clause-ran
-returns-in-Err-clause-ran g c honest stands quiet =
-    elim (c.in-Err.ensures.never honest stands) [
+returns-in-Err-clause-ran g c h honest stands quiet =
+    elim (c.in-Err.ensures.never h honest (subst (λ (l : Limits). IsHistory l h) (sym c.usual.ensures) stands.history) stands.file) [
       | inl disk ↦ absurd (quiet (c.in-Err.ensures.cause (ap Err disk)))
       | inr memory ↦ inl (c.refused.ensures.memory memory)
     ]
 
 pub returns-in-Ok-clause-ran : goal.returns-in-Ok-clause-ran
-returns-in-Ok-clause-ran g c honest stands quiet =
+returns-in-Ok-clause-ran g c h honest stands quiet =
     let opened = c.open_hub.ensures.stays in
     let talked = c.converse-end.ensures.stays in
     let followed = c.follow.ensures.stays in
     let first = opened.disk_faults in
     let second = talked.disk_faults in
     let third = followed.disk_faults in
-    let talk = c.converse-end.ensures.spoke [] (c.in-Ok.ensures.ready honest stands) (λ rose. quiet (rose_within _ _ _ _ first third rose)) in
+    let image = (g.P.Plant.state c.args.plant.now).image in
+    let ready = subst (λ (l : Limits). IsReady l (g.P.Plant.state c.open_hub.new.plant) c.in-Ok.hub h) c.usual.ensures
+        (c.in-Ok.ensures.ready h honest (subst (λ (l : Limits). Stands l image h) (sym c.usual.ensures) stands)) in
+    let talk = c.converse-end.ensures.spoke h ready (λ rose. quiet (rose_within _ _ _ _ first third rose)) in
     let rest = c.follow.ensures.ends talk.0 talk.2 (λ rose. quiet (rose_within _ _ _ _ (omega (arith, first, second)) (omega arith) rose)) in
     let shelf = opened.shelf_faults in
     let shelf' = talked.shelf_faults in

@@ -1,14 +1,15 @@
 use Rattle.std.proofs.Common.{◌≡◌, ◌-◌, List, ◌++◌}
 use Rattle.mail_plan.specs.declared.entry.Entry.{Entry}
 use Rattle.plant_dev.specs.Disk.{Stays}
-use Rattle.queue_store.specs.Ready.{IsReady}
+use Rattle.hub_core.specs.declared.limits.Limits.{Limits}
+use Rattle.queue_store.specs.Ready.{IsReady, Adds}
 use Rattle.queue_store.specs.Calls.{entries_all, entries_categorise}
 use Rattle.queue_store.proofs.hub.Hub.categorise_each.Given as goal
 
 abbrev pub invariant-loop-place : goal.invariant-loop-place
 invariant-loop-place g l = record {
-  goes : (h : List Entry) → IsReady (g.P.Plant.state l.fn.plant) l.fn.self h →
-      (done : List Entry) × IsReady (g.P.Plant.state l.plant) l.self (h ++ done)
+  goes : (limits : Limits) (h : List Entry) → IsReady limits (g.P.Plant.state l.fn.plant) l.fn.self h →
+      (done : List Entry) × Adds limits (g.P.Plant.state l.plant) l.self h done
       × (done ++ entries_all (l.count - l.place) l.self.state l.place ≡ entries_categorise l.fn.self.state);
   stays : Stays (g.P.Plant.state l.fn.plant) (g.P.Plant.state l.plant);
 }

@@ -1,0 +1,22 @@
+use Rattle.mail_plan.specs.EntryText.{form_accepted, form_categorised, entry_text}
+use Rattle.mail_plan.specs.Entries.{IsAccepted, IsCategorised, IsEntry}
+use Rattle.mail_plan.proofs.Parts.{IsByte, form_byte, passed_on}
+use Rattle.mail_plan.proofs.ByKind.{tagged, has_accepted, has_categorised}
+use Rattle.mail_plan.proofs.read.entry_at.Goals as goal
+
+pub returns-in_err-kind : goal.returns-in_err-kind
+returns-in_err-kind c =
+    passed_on IsByte form_byte IsEntry entry_text c.args.bytes.now c.args.at c.args.at c.in_err-kind.field-0.0 c.from_residual.result c.from_residual.ensures.1
+    (tagged c.args.bytes.now c.args.at) c.in_err-kind.ensures
+
+pub returns-in_err-moment-in-2 : goal.returns-in_err-moment-in-2
+returns-in_err-moment-in-2 c =
+    passed_on IsAccepted form_accepted IsEntry entry_text c.args.bytes.now c.args.at c.in_ok-kind.start c.in_err-moment-in-2.field-0.0 c.from_residual-in_err-moment-in-2.result c.from_residual-in_err-moment-in-2.ensures.1
+    (has_accepted c.in_ok-kind.kind c.args.bytes.now c.args.at c.in_ok-kind.start c.in_ok-kind.ensures c.in-2.is)
+    c.in_err-moment-in-2.ensures
+
+pub returns-in_err-number-in-3 : goal.returns-in_err-number-in-3
+returns-in_err-number-in-3 c =
+    passed_on IsCategorised form_categorised IsEntry entry_text c.args.bytes.now c.args.at c.in_ok-kind.start c.in_err-number-in-3.field-0.0 c.from_residual-in_err-number-in-3.result c.from_residual-in_err-number-in-3.ensures.1
+    (has_categorised c.in_ok-kind.kind c.args.bytes.now c.args.at c.in_ok-kind.start c.in_ok-kind.ensures c.in-3.is)
+    c.in_err-number-in-3.ensures

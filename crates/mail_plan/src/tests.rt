@@ -1,0 +1,131 @@
+use crate::{
+    Entry, Item, Origin, Release, Submission, get_bytes, get_item_name, get_key, get_key_option,
+    get_keys, get_origin, get_release, put_release,
+};
+use mail_names::{Bytes, ItemName, Items, Key, Mark};
+use std::alloc::Global;
+use std::test::Fail;
+
+const NAME: ItemName = ItemName {
+    submission: 1,
+    release: 2,
+    place: 3,
+    mark: Mark::Delay,
+};
+
+const NAME_TEXT: &[u8] = b"\x01\0\0\0\0\0\0\0\x02\0\0\0\x03\0\0\0\x02";
+
+const KEY_TEXT: &[u8] = b"\x03\0\0\0\0\0\0\0a@b";
+
+fn key(alloc: Global) -> Result<Key, Fail> {
+    Ok(Key::read(alloc, b"a@b").ok().ok_or("no key")?)
+}
+
+fn keys(alloc: Global) -> Result<Items<Key>, Fail> {
+    let mut keys = Items::new(alloc);
+    keys.push(key(alloc)?)?;
+    Ok(keys)
+}
+
+fn accepted(alloc: Global) -> Result<Entry, Fail> {
+    let bytes = Bytes::of(alloc, b"A: b\r\n\r\n")?;
+    let submission = Submission::new(alloc, Origin::Smtp, None, keys(alloc)?, bytes);
+    Ok(Entry::Accepted {
+        moment: 5,
+        submission: submission.ok().ok_or("no submission")?,
+    })
+}
+
+fn release(alloc: Global) -> Result<Release, Fail> {
+    let mut texts = Items::new(alloc);
+    texts.push(Bytes::of(alloc, b"xy")?)?;
+    let mut items = Items::new(alloc);
+    items.push(Item {
+        name: NAME,
+        folder: key(alloc)?,
+        text: 0,
+    })?;
+    Ok(Release { texts, items })
+}
+
+#[test]
+fn entries_are_written_and_read(rt: HostRuntime) -> Result<(), Fail> {
+    let alloc = rt.alloc();
+    let plan = release(alloc)?;
+    for entry in [
+        accepted(alloc)?,
+        Entry::Categorised {
+            number: 1,
+            release: 2,
+            plan,
+        },
+        Entry::Moment { moment: 7 },
+        Entry::Delivered { name: NAME },
+    ] {
+        let text = entry.text(alloc)?;
+        let again = Entry::read(alloc, text.as_slice())?.ok_or("an entry")?;
+        assert!(rt; again.text(alloc)?.same(&text));
+        let front = &text.as_slice()[..text.as_slice().len().saturating_sub(1)];
+        assert!(rt; Entry::read(alloc, front)?.is_none());
+    }
+    Ok(())
+}
+
+#[test]
+fn other_bytes_are_no_entry(rt: HostRuntime) -> Result<(), Fail> {
+    let alloc = rt.alloc();
+    for (payload, what) in [
+        (b"".as_slice(), "nothing"),
+        (b"\x04\0\0\0\0\0\0\0\0".as_slice(), "a kind that isn't used"),
+        (b"\x05\0\0\0\0\0\0\0\0\0".as_slice(), "a byte left over"),
+        (b"\x05\0\0\0\0\0\0\0".as_slice(), "a byte too few"),
+        (b"\x06\x01\0\0\0\0\0\0\0\x02\0\0\0\x03\0\0\0\x04".as_slice(), "a mark of 4"),
+        (b"\x02\0\0\0\0\0\0\0\0\x02".as_slice(), "an origin of 2"),
+    ] {
+        assert!(rt; Entry::read(alloc, payload)?.is_none(), "{what}");
+    }
+    Ok(())
+}
+
+#[test]
+fn fields_are_read_at_their_place(rt: HostRuntime) -> Result<(), Fail> {
+    let alloc = rt.alloc();
+    let mut text = Bytes::of(alloc, b"\x01\x01")?;
+    text.add(KEY_TEXT)?;
+    let bytes = text.as_slice();
+    let (found, end) = get_bytes(alloc, bytes, 2)?.ok_or("bytes")?;
+    assert_eq!(rt; found.as_slice(), b"a@b".as_slice());
+    assert_eq!(rt; end, 13);
+    let (found, end) = get_key(alloc, bytes, 2)?.ok_or("a key")?;
+    assert_eq!(rt; found.bytes(), b"a@b".as_slice());
+    assert_eq!(rt; end, 13);
+    let (found, end) = get_key_option(alloc, bytes, 1)?.ok_or("an option")?;
+    assert!(rt; found.is_some());
+    assert_eq!(rt; end, 13);
+    let (found, end) = get_origin(alloc, bytes, 1)?.ok_or("an origin")?;
+    assert!(rt; matches!(found, Origin::Pickup { .. }));
+    assert_eq!(rt; end, 13);
+    let (found, end) = get_item_name(NAME_TEXT, 0)?.ok_or("a name")?;
+    assert_eq!(rt; found, NAME);
+    assert_eq!(rt; end, 17);
+    assert!(rt; get_key(alloc, b"\x03\0\0\0\0\0\0\0A@b", 0)?.is_none());
+    assert!(rt; get_bytes(alloc, bytes, 14)?.is_none());
+    Ok(())
+}
+
+#[test]
+fn lists_are_read_behind_their_count(rt: HostRuntime) -> Result<(), Fail> {
+    let alloc = rt.alloc();
+    let mut text = Bytes::of(alloc, b"\x01\0\0\0")?;
+    text.add(KEY_TEXT)?;
+    let (found, end) = get_keys(alloc, text.as_slice(), 0)?.ok_or("keys")?;
+    assert_eq!(rt; found.len(), 1);
+    assert_eq!(rt; end, 15);
+    let mut text = Bytes::new(alloc);
+    put_release(&mut text, &release(alloc)?)?;
+    let (found, end) = get_release(alloc, text.as_slice(), 0)?.ok_or("a release")?;
+    assert_eq!(rt; found.texts.len(), 1);
+    assert_eq!(rt; found.items.len(), 1);
+    assert_eq!(rt; end, text.as_slice().len());
+    Ok(())
+}

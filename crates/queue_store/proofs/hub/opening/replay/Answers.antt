@@ -1,0 +1,67 @@
+use Rattle.std.proofs.Common.{rules, ◌≡◌, List, ℕ, [], ◌∷◌, ◌++◌, Option, Ok, sym, ◌∙◌, ap, subst}
+use Rattle.plant_dev.specs.Disk.{Image}
+use Rattle.plant_dev.proofs.Moments.{stays_honest, stays_more, reads_more}
+use Rattle.mail_plan.specs.declared.entry.Entry.{Entry}
+use Rattle.queue_disk.specs.Reading.{IsRead, ReadsOn}
+use Rattle.hub_core.specs.Standing.{Standing, is_lawful}
+use Rattle.queue_store.proofs.Opening.{lawful_next, replayed_more, replayed_all, log_fault, memory_fault}
+use Rattle.queue_store.proofs.hub.opening.replay.Goals as goal
+
+pub returns-in_err-entry-clause-never : goal.returns-in_err-entry-clause-never
+returns-in_err-entry-clause-never g c h honest history read =
+    let s0 = g.P.Plant.state c.args.plant.now in
+    let s1 = g.P.Plant.state c.loop-state.plant in
+    let inv = c.loop-state.invariant in
+    let far = inv.read h honest read in
+    let now = subst (λ (i : Image). IsRead i.file h far.done c.loop-state.log.place) (sym (inv.reads honest).image) far.read in
+    log_fault s1.image.file h far.done c.next.new.self.place c.in_err-entry.field-0.0 _ c.from_residual.ensures.1 (c.in_err-entry.ensures.reads_on h far.done (stays_honest s0 s1 inv.stays honest) now)
+
+pub loop-state-preserved : goal.loop-state-preserved
+loop-state-preserved g c =
+    let s0 = g.P.Plant.state c.args.plant.now in
+    let s1 = g.P.Plant.state c.loop-state.plant in
+    let s2 = g.P.Plant.state c.next.new.plant in
+    let inv = c.loop-state.invariant in
+    record {
+      stays = stays_more s0 s1 s2 inv.stays c.next.ensures.stays;
+      most = (let kept : c.next.new.self.most ≡ c.loop-state.log.most = search rules in kept ∙ inv.most);
+      reads = λ honest. reads_more s0 s1 s2 (inv.reads honest) (c.next.ensures.reads (stays_honest s0 s1 inv.stays honest));
+      read = λ h honest read.
+          let far = inv.read h honest read in
+          let now = subst (λ (i : Image). IsRead i.file h far.done c.loop-state.log.place) (sym (inv.reads honest).image) far.read in
+          let on = subst (λ (o : Option Entry). ReadsOn s1.image.file h far.done c.next.new.self.place (Ok o)) c.in-Some.is
+              (c.in_ok-entry.ensures.reads_on h far.done (stays_honest s0 s1 inv.stays honest) now) in
+          replayed_more c.args.limits s0.image.file h c.loop-state.log.place c.next.new.self.place c.loop-state.state c.go_on.new.state c.in-Some.entry far
+          (subst (λ (i : Image). IsRead i.file h (far.done ++ c.in-Some.entry ∷ []) c.next.new.self.place) (inv.reads honest).image on)
+          c.in_ok-go_on.ensures.goes;
+    }
+
+pub returns-in_err-go_on-clause-never : goal.returns-in_err-go_on-clause-never
+returns-in_err-go_on-clause-never g c h honest history read =
+    let s0 = g.P.Plant.state c.args.plant.now in
+    let s1 = g.P.Plant.state c.loop-state.plant in
+    let inv = c.loop-state.invariant in
+    let far = inv.read h honest read in
+    let now = subst (λ (i : Image). IsRead i.file h far.done c.loop-state.log.place) (sym (inv.reads honest).image) far.read in
+    let on = subst (λ (o : Option Entry). ReadsOn s1.image.file h far.done c.next.new.self.place (Ok o)) c.in-Some.is
+        (c.in_ok-entry.ensures.reads_on h far.done (stays_honest s0 s1 inv.stays honest) now) in
+    let lawful = ap (λ (s : Standing). is_lawful s c.in-Some.entry) far.state ∙ lawful_next c.args.limits s1.image.file h far.done c.in-Some.entry _ history on in
+    memory_fault _ _ c.from_residual-in_err-go_on.ensures.1 (c.in_err-go_on.ensures.lawful lawful)
+
+pub returns-clause-state : goal.returns-clause-state
+returns-clause-state g c h honest read =
+    let s0 = g.P.Plant.state c.args.plant.now in
+    let s1 = g.P.Plant.state c.loop-state.plant in
+    let inv = c.loop-state.invariant in
+    let far = inv.read h honest read in
+    let now = subst (λ (i : Image). IsRead i.file h far.done c.loop-state.log.place) (sym (inv.reads honest).image) far.read in
+    (replayed_all c.args.limits _ h _ _ c.loop-state.state c.in_ok-entry.field-0 (record { done = far.done; read = now; state = far.state }) c.in_default.is (c.in_ok-entry.ensures.reads_on h far.done (stays_honest s0 s1 inv.stays honest) now)).0
+
+pub returns-clause-end : goal.returns-clause-end
+returns-clause-end g c h honest read =
+    let s0 = g.P.Plant.state c.args.plant.now in
+    let s1 = g.P.Plant.state c.loop-state.plant in
+    let inv = c.loop-state.invariant in
+    let far = inv.read h honest read in
+    let now = subst (λ (i : Image). IsRead i.file h far.done c.loop-state.log.place) (sym (inv.reads honest).image) far.read in
+    (replayed_all c.args.limits _ h _ _ c.loop-state.state c.in_ok-entry.field-0 (record { done = far.done; read = now; state = far.state }) c.in_default.is (c.in_ok-entry.ensures.reads_on h far.done (stays_honest s0 s1 inv.stays honest) now)).1

@@ -1,0 +1,20 @@
+use Rattle.std.proofs.Common.{◌≡◌, List, ℕ, ◌-◌, ◌^◌, [], IsTrue}
+use Rattle.mail_plan.specs.declared.entry.Entry.{Entry}
+use Rattle.plant_dev.specs.Disk.{Stays, Reads}
+use Rattle.queue_disk.specs.Reading.{IsRead}
+use Rattle.queue_store.proofs.Opening.{Replayed}
+use Rattle.queue_store.proofs.hub.opening.replay.Given as goal
+
+abbrev pub invariant-loop-state : goal.invariant-loop-state
+invariant-loop-state g l =
+    let s0 = g.P.Plant.state l.fn.plant in
+    let s = g.P.Plant.state l.plant in
+    record {
+      stays : Stays s0 s;
+      most : l.log.most ≡ l.fn.log.most;
+      reads : IsTrue s0.honest → Reads s0 s;
+      read : (h : List Entry) → IsTrue s0.honest → IsRead s0.image.file h [] l.fn.log.place → Replayed l.fn.limits s0.image.file h l.log.place l.state;
+    }
+
+abbrev pub decreases-loop-state : goal.decreases-loop-state
+decreases-loop-state g l = 2 ^ 64 - l.log.place

@@ -1,0 +1,87 @@
+// Opening: the state that the entries of a log leave.
+ghost use Rattle.std.specs.Prelude.{◌≡◌, ◌⊎◌, [], List, length, true, IsTrue, IfOk, IfErr, OnOk, IsErrOf};
+ghost use Rattle.port_io.specs.Causes.{Rose};
+ghost use Rattle.mail_plan.specs.declared.entry.Entry.{Entry};
+ghost use Rattle.plant_dev.specs.Disk.{Stays, Reads};
+ghost use Rattle.queue_disk.specs.Log.{FileOf, log_of};
+ghost use Rattle.queue_disk.specs.Reading.{IsRead};
+ghost use Rattle.hub_core.specs.declared.limits.Limits.{Limits};
+ghost use Rattle.hub_core.specs.Standing.{standing, state_after, is_lawful};
+ghost use Rattle.hub_core.specs.Items.{IsHistory};
+
+use super::Hub;
+use crate::HubFault;
+use hub_core::{Limits, State, StepFault};
+use mail_plan::Entry;
+use plant_dev::Plant;
+use queue_disk::{Log, open_log};
+use std::alloc::Global;
+
+impl Hub {
+    ghost use Rattle.queue_store.specs.Stands.{Stands};
+    ghost use Rattle.queue_store.specs.Ready.{IsReady};
+
+    /// Opens the hub under these limits: its state is that of the log's entries. A file of at most nine octets becomes a new log.
+    ///
+    /// `NotALog` names the first octet at which the file is no log, or the gate of the first entry that can't stand
+    /// behind those before it. What lies behind the first closed gate is ignored.
+    pub fn open_hub<P: Plant>(
+        alloc: Global,
+        plant: &mut P,
+        limits: Limits,
+    ) -> Result<Hub, HubFault>
+        ensures ready { (h : List Entry) → IsTrue (P.state plant.old).honest → Stands limits (P.state plant.old).image h →
+            IfOk result (λ hub. IsReady limits (P.state plant.new) hub h) }
+        ensures never { (h : List Entry) → IsTrue (P.state plant.old).honest → IsHistory limits h → FileOf (P.state plant.old).image.file h →
+            IfErr result (λ e. (e ≡ HubFault.DiskFault) ⊎ (e ≡ HubFault.NoMemory)) }
+        ensures shelf { IsTrue (P.state plant.old).honest → (P.state plant.new).image.shelf ≡ (P.state plant.old).image.shelf }
+        ensures stays { Stays (P.state plant.old) (P.state plant.new) }
+        ensures cause { IsErrOf result HubFault.DiskFault → Rose (P.state plant.old).disk_faults (P.state plant.new).disk_faults }
+    {
+        let mut log = open_log(plant, limits.log)?;
+        let state = replay(alloc, plant, limits, &mut log)?;
+        Ok(Hub {
+            state,
+            log,
+            broken: false,
+        })
+    }
+}
+
+// Goes on by an entry that was read behind the gate at this place.
+fn go_on(alloc: Global, state: &mut State, entry: Entry, gate: u64) -> Result<(), HubFault>
+    ensures goes { OnOk result (state.new ≡ state_after state.old entry) }
+    ensures lawful { is_lawful state.old entry ≡ true → IfErr result (λ e. e ≡ HubFault.NoMemory) }
+    ensures only { IfErr result (λ e. (e ≡ HubFault.NoMemory) ⊎ (e ≡ HubFault.NotALog gate)) }
+{
+    match state.apply(alloc, entry) {
+        Ok(()) => Ok(()),
+        Err(StepFault::NoMemory) => Err(HubFault::NoMemory),
+        Err(StepFault::NotLawful) => Err(HubFault::NotALog { at: gate }),
+    }
+}
+
+// Reads the log to its closed gate, and gives the state of its entries.
+fn replay<P: Plant>(
+    alloc: Global,
+    plant: &mut P,
+    limits: Limits,
+    log: &mut Log,
+) -> Result<State, HubFault>
+    ensures stays { Stays (P.state plant.old) (P.state plant.new) }
+    ensures cause { IsErrOf result HubFault.DiskFault → Rose (P.state plant.old).disk_faults (P.state plant.new).disk_faults }
+    ensures reads { IsTrue (P.state plant.old).honest → Reads (P.state plant.old) (P.state plant.new) }
+    ensures most { log.new.most ≡ log.old.most }
+    ensures state { (h : List Entry) → IsTrue (P.state plant.old).honest → IsRead (P.state plant.old).image.file h [] log.old.place →
+        IfOk result (λ state. state ≡ standing limits h) }
+    ensures end { (h : List Entry) → IsTrue (P.state plant.old).honest → IsRead (P.state plant.old).image.file h [] log.old.place →
+        OnOk result (log.new.place ≡ length (log_of h)) }
+    ensures never { (h : List Entry) → IsTrue (P.state plant.old).honest → IsHistory limits h → IsRead (P.state plant.old).image.file h [] log.old.place →
+        IfErr result (λ e. (e ≡ HubFault.DiskFault) ⊎ (e ≡ HubFault.NoMemory)) }
+{
+    let mut state = State::start(alloc, limits);
+    while let Some(entry) = log.next(alloc, plant)? {
+        go_on(alloc, &mut state, entry, log.gate())?;
+    }
+    Ok(state)
+}
