@@ -8,6 +8,8 @@ mod queue;
 mod release;
 mod remembered;
 mod state;
+#[cfg(test)]
+mod tests;
 
 pub use command::{Command, Reply, StepFault};
 pub use live::Live;
