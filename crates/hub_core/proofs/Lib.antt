@@ -6,3 +6,4 @@ pub mod Forming
 pub mod First
 pub mod Noted
 pub mod Repeating
+pub mod Unique

@@ -3,6 +3,7 @@
 
 mod command;
 mod digest;
+pub mod laws;
 mod live;
 mod queue;
 mod release;
