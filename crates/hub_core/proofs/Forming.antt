@@ -1,11 +1,11 @@
 -- A release has the form of one.
-use Rattle.std.proofs.Common.{◌≡◌, ℕ, zero, suc, ◌+◌, ◌<◌, Bool, true, false, cond, eqb, List, [], ◌∷◌, ◌++◌, length, refl, ap, ◌∙◌, sym, subst, arith, length-append}
+use Rattle.std.proofs.Common.{◌≡◌, ℕ, ◌+◌, ◌<◌, Bool, true, false, cond, List, [], ◌∷◌, ◌++◌, length, refl, ap, ◌∙◌, arith, length-append}
 use Rattle.std.specs.Prelude.{fold, ◌&&◌, ◌==◌, bytes_eq}
 use Rattle.std.specs.List.{list_any}
 use Rattle.std.proofs.lemmas.Bool.Decides.{nat_tests}
 use Rattle.mail_plan.specs.Submission.{Submitted}
 use Rattle.hub_core.specs.Release.{with_key, distinct, items_from, release_of}
-use Rattle.hub_core.specs.Standing.{are_named, use_texts, are_distinct, is_release}
+use Rattle.hub_core.specs.Standing.{are_named, use_texts, is_release}
 
 same : (n : ℕ) → (n == n) ≡ true
 same n = grind (arith, nat_tests)

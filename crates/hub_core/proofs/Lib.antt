@@ -7,3 +7,4 @@ pub mod First
 pub mod Noted
 pub mod Repeating
 pub mod Room
+pub mod Unique

@@ -1,5 +1,5 @@
 -- The submissions that are remembered, and the items that are found among those that wait.
-use Rattle.std.proofs.Common.{◌≡◌, ◌⊎◌, ℕ, zero, suc, ◌+◌, ◌-◌, Bool, true, false, cond, eqb, List, [], ◌∷◌, ◌++◌, Option, Some, None, refl, ap, ◌∙◌, sym, subst, inl, inr, arith, append_assoc, append-nil}
+use Rattle.std.proofs.Common.{◌≡◌, ℕ, zero, suc, ◌-◌, Bool, true, false, cond, List, [], ◌∷◌, ◌++◌, Option, Some, None, refl, ap, ◌∙◌, sym, inl, inr, arith, append_assoc, append-nil}
 use Rattle.std.specs.Prelude.{fold, map, find, option_map, slice_get, slice_set, ◌&&◌, not}
 use Rattle.std.proofs.lemmas.Option.{slice_get-map}
 use Rattle.std.proofs.lemmas.Bool.Decides.{Decides-eqb}
@@ -12,7 +12,7 @@ use Rattle.mail_plan.specs.declared.entry.Entry.TheVariants as entries
 use Rattle.hub_core.specs.declared.queue.QueuedItem.{QueuedItem}
 use Rattle.hub_core.specs.declared.live.Live.{Live}
 use Rattle.hub_core.specs.declared.limits.Limits.{Limits}
-use Rattle.hub_core.specs.Standing.{Standing, start, standing, state_after, mark, mark_at, mark_number, same_name, is_named, is_uncategorised, uncategorised_of}
+use Rattle.hub_core.specs.Standing.{Standing, start, standing, state_after, mark_at, mark_number, same_name, is_named, is_uncategorised, uncategorised_of}
 use Rattle.hub_core.specs.Items.{accepted, Among}
 use Rattle.hub_core.proofs.Prescribed.{accepted-cons}
 

@@ -3,12 +3,15 @@
 
 mod command;
 mod digest;
+pub mod laws;
 mod limits;
 mod live;
 mod queue;
 mod release;
 mod remembered;
 mod state;
+#[cfg(test)]
+mod tests;
 
 pub use command::{Command, Reply, StepFault};
 pub use limits::Limits;

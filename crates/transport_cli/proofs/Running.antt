@@ -1,5 +1,5 @@
 -- What follows a session, counted from its beginning.
-use Rattle.std.proofs.Common.{◌≡◌, ◌⊎◌, ℕ, ◌+◌, ◌-◌, ◌^◌, ◌≤◌, min, Bool, List, [], ◌∷◌, ◌++◌, Option, arith}
+use Rattle.std.proofs.Common.{◌≡◌, ◌⊎◌, ℕ, ◌+◌, ◌-◌, ◌^◌, ◌≤◌, min, Bool, List, [], ◌∷◌, ◌++◌, Option, arith, sym, subst}
 use Rattle.port_io.specs.Causes.{Rose, RoseBy}
 use Rattle.mail_plan.specs.declared.entry.Entry.{Entry}
 use Rattle.port_io.specs.Told.{Gave}
@@ -75,3 +75,8 @@ cut_finish h then now f f' turn puts s hub (faults.QueueFull live bytes) stops c
 cut_finish h then now f f' turn puts s hub (faults.LogFull octets) stops clock missed =
     short_of h then now f f' turn puts s hub (faults.LogFull octets) Overfull stops (octets, stops.why) clock missed
 cut_finish h then now f f' turn puts s hub (faults.NotALog at) stops clock missed = absurd stops.why
+
+pub cut_status : (h : List Entry) (then now : ℕ → Option ℕ) (f f' : ℕ) (turn : ℕ) (puts : List Bool) (s : State) (hub : Kept) (e : HubFault) (status : Status) → status ≡ refused e →
+    Stops usual s hub h (entries_finish (standing usual h) turn puts) e → Gave then now [] ⊎ Gave then now (turn ∷ []) → RoseBy (misses puts) f f' → Finishes h then now f f' s.image status
+cut_status h then now f f' turn puts s hub e status is stops clock missed =
+    subst (λ (x : Status). Finishes h then now f f' s.image x) (sym is) (cut_finish h then now f f' turn puts s hub e stops clock missed)

@@ -67,10 +67,10 @@ module _ {I : Type 0} (gives : I → IntakeStep → I → Type 0) (state : I →
       record { h' = h; told = (refl, subst (λ (s : Standing). number ≡ length s.live + 1) at.state (d.does.why usual h at)); at = d.does.ready usual h at }
   step_done a b (steps.NextNumber (Err faults.DiskFault)) h d at quiet = absurd (quiet d.does)
   step_done a b (steps.NextNumber (Err faults.NoMemory)) h d at quiet = absurd (d.does usual h at)
-  step_done a b (steps.NextNumber (Err (faults.QueueFull live bytes))) h d at quiet = absurd d.does
+  step_done a b (steps.NextNumber (Err (faults.QueueFull live bytes))) h d at quiet = absurd (d.does usual h at)
   step_done a b (steps.NextNumber (Err (faults.LogFull octets))) h d at quiet = absurd (d.does usual h at)
   step_done a b (steps.NextNumber (Err (faults.NotALog place))) h d at quiet = absurd (d.does usual h at)
-  step_done a b (steps.NextNumber (Err (faults.DeskFull calls))) h d at quiet = absurd d.does
+  step_done a b (steps.NextNumber (Err (faults.DeskFull calls))) h d at quiet = absurd (d.does usual h at)
 
   later : (steps : List IntakeStep) (a b : I) → Steps gives a steps b → (state a).disk_faults ≤ (state b).disk_faults
   later [] a b e = subst (λ (x : I). (state a).disk_faults ≤ (state x).disk_faults) e (omega arith)

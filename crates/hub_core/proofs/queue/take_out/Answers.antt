@@ -1,4 +1,4 @@
-use Rattle.std.proofs.Common.{◌≡◌, ◌∙◌, sym}
+use Rattle.std.proofs.Common.{◌∙◌, sym}
 use Rattle.hub_core.proofs.Removing.{without-at, place-within, without-none}
 use Rattle.hub_core.proofs.queue.take_out.Goals as goal
 

@@ -1,4 +1,4 @@
-use Rattle.std.proofs.Common.{◌≡◌, ◌<◌, ℕ, true, length, ap, ◌∙◌, subst, sym, Result, Ok, Err, List}
+use Rattle.std.proofs.Common.{◌≡◌, ◌<◌, ℕ, true, length, ap, ◌∙◌, subst, Result, Ok, Err, List}
 use Rattle.std.specs.Prelude.{IfOk}
 use Rattle.mail_names.specs.declared.bytes.NoMemory.{NoMemory}
 use Rattle.mail_plan.specs.Submission.{Submitted}

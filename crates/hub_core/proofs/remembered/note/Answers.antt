@@ -1,4 +1,4 @@
-use Rattle.std.proofs.Common.{◌≡◌, ℕ, List, Option, ◌∙◌, ap, sym}
+use Rattle.std.proofs.Common.{ℕ, List, Option, ◌∙◌, ap, sym}
 use Rattle.hub_core.specs.Repeats.{is_digest, found_or, place_at}
 use Rattle.hub_core.proofs.Noted.{noted, none_from}
 use Rattle.hub_core.proofs.remembered.note.Goals as goal

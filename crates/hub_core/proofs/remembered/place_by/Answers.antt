@@ -1,4 +1,4 @@
-use Rattle.std.proofs.Common.{◌≡◌, ◌∙◌, sym}
+use Rattle.std.proofs.Common.{◌∙◌, sym}
 use Rattle.hub_core.proofs.Repeating.{place-missed, place-hit}
 use Rattle.hub_core.proofs.remembered.place_by.Goals as goal
 

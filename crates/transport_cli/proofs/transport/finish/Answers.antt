@@ -7,7 +7,7 @@ use Rattle.queue_store.proofs.Stepping.{adds-along, stops-along}
 use Rattle.queue_store.proofs.Turning.{state-goes, adds-joined, stops-joined, stops-more}
 use Rattle.transport_cli.specs.declared.status.Status.{Status}
 use Rattle.transport_cli.specs.Run.{Finishes, entries_finish}
-use Rattle.transport_cli.proofs.Running.{rose_within, cut_finish}
+use Rattle.transport_cli.proofs.Running.{rose_within, cut_status}
 use Rattle.transport_cli.proofs.transport.finish.Goals as goal
 
 pub returns-in-Err-clause-finishes : goal.returns-in-Err-clause-finishes
@@ -17,10 +17,9 @@ returns-in-Err-clause-finishes g c h ready quiet =
     let rise = c.categorise_all.ensures.stays.shelf_faults in
     elim (c.in-Err.ensures.stops usual h ready) [
       | inl disk ↦ absurd (quiet (c.in-Err.ensures.cause (ap Err disk)))
-      | inr stops ↦ subst (λ (status : Status). Finishes h _ _ _ _ _ status) (sym c.refused.ensures.value)
-          (cut_finish h _ _ _ _ 0 [] _ _ c.in-Err.fault
+      | inr stops ↦ cut_status h _ _ _ _ 0 [] _ _ c.in-Err.fault _ c.refused.ensures.value
           (stops-along usual _ _ h _ _ _ (ap (λ (st : Standing). entries_finish st 0 []) ready.state) (stops-more usual _ _ h es (entries_turn (after_entries s es) 0 []) _ stops))
-          (inl (λ k. refl)) (omega (arith, rise)))
+          (inl (λ k. refl)) (omega (arith, rise))
     ]
 
 pub returns-in-Err-turn-clause-finishes : goal.returns-in-Err-turn-clause-finishes
@@ -39,9 +38,9 @@ returns-in-Err-turn-clause-finishes g c h ready quiet =
           let whole : es ++ (entries_turn c.categorise_all.new.self.state turn stops.0 ++ []) ≡ entries_finish (standing usual h) turn stops.0 =
           ap (λ (xs : List Entry). es ++ xs) (append-nil _) ∙ ap (λ (st : Standing). es ++ entries_turn st turn stops.0) goes ∙ ap (λ (st : Standing). entries_finish st turn stops.0) ready.state in
           let missed = stops.2 in
-          subst (λ (status : Status). Finishes h _ _ _ _ _ status) (sym c.refused-turn.ensures.value)
-          (cut_finish h _ _ _ _ turn stops.0 _ _ c.in-Err-turn.fault (stops-along usual _ _ h _ _ _ whole (stops-joined usual _ _ _ _ h es _ [] _ one stops.1))
-          (inr (c.now-turn.ensures.moment, c.now-turn.ensures.later)) (omega (arith, rise, missed)))
+          cut_status h _ _ _ _ turn stops.0 _ _ c.in-Err-turn.fault _ c.refused-in-Err-turn.ensures.value
+          (stops-along usual _ _ h _ _ _ whole (stops-joined usual _ _ _ _ h es _ [] _ one stops.1))
+          (inr (c.now-turn.ensures.moment, c.now-turn.ensures.later)) (omega (arith, rise, missed))
     ]
 
 pub returns-in-Ok-turn-clause-finishes : goal.returns-in-Ok-turn-clause-finishes

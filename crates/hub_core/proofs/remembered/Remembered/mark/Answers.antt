@@ -1,4 +1,4 @@
-use Rattle.std.proofs.Common.{◌≡◌, List, sym, subst}
+use Rattle.std.proofs.Common.{List, sym, subst}
 use Rattle.hub_core.specs.declared.live.Live.{Live}
 use Rattle.hub_core.specs.Repeats.{IsIndex}
 use Rattle.hub_core.proofs.Repeating.{index-marked}

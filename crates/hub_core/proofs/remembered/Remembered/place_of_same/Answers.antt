@@ -1,4 +1,4 @@
-use Rattle.std.proofs.Common.{◌≡◌, ◌∙◌, sym}
+use Rattle.std.proofs.Common.{◌∙◌, sym}
 use Rattle.hub_core.proofs.Repeating.{place-without}
 use Rattle.hub_core.proofs.remembered.Remembered.place_of_same.Goals as goal
 

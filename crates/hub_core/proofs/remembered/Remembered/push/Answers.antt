@@ -1,4 +1,4 @@
-use Rattle.std.proofs.Common.{◌≡◌, ℕ, ◌+◌, List, false, Option, ◌∙◌, ap, sym, subst}
+use Rattle.std.proofs.Common.{ℕ, List, false, Option, ◌∙◌, ap, sym, subst}
 use Rattle.hub_core.specs.declared.live.Live.{Live}
 use Rattle.hub_core.specs.Repeats.{IsIndex, digest_of, is_digest, found_or, place_at}
 use Rattle.hub_core.proofs.Repeating.{index-pushed}
