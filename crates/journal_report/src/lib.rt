@@ -1,0 +1,13 @@
+//! Why a message goes to a target, and the reports that say so to a journal's mailbox.
+#![tactic(auto)]
+
+mod parts;
+mod why;
+mod writing;
+
+pub use parts::{Line, Report, ReportHead};
+pub use why::{Why, add_why_text};
+pub use writing::report;
+
+#[cfg(test)]
+mod tests;
