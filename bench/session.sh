@@ -65,6 +65,16 @@ copied() {
   row "$1" $((end - begin)) 0
 }
 
+# opened NAME: what opening the log of the last load takes
+opened() {
+  cp hub/queue.log input
+  local begin end
+  begin=$(date +%s%N)
+  "$program" session < /dev/null > output
+  end=$(date +%s%N)
+  row "$1" $((end - begin)) 0
+}
+
 printf '%-40s %8s %10s %12s %14s\n' load messages seconds messages/s octets/s
 timed "messages of 1 KiB" small "$messages"
 timed "a message of 1 MiB" large 1
@@ -73,3 +83,15 @@ copied "a copy of the same file, synced" fields
 for piece in 1 17 65536; do
   timed "1 MiB of dot lines, in pieces of $piece" dots 1 "$piece"
 done
+
+# The program's own work, where syncs cost nothing: each message makes three entries of the log, so the last of these
+# logs has 100,000.
+if [ -d /dev/shm ]; then
+  rm -rf "$work"
+  work=$(mktemp -d -p /dev/shm)
+  cd "$work"
+  for count in 1000 10000 33333; do
+    timed "$count messages, in memory" small "$count"
+    opened "opening the log of $count messages"
+  done
+fi

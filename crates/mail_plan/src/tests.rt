@@ -79,7 +79,10 @@ fn other_bytes_are_no_entry(rt: HostRuntime) -> Result<(), Fail> {
         (b"\x04\0\0\0\0\0\0\0\0".as_slice(), "a kind that isn't used"),
         (b"\x05\0\0\0\0\0\0\0\0\0".as_slice(), "a byte left over"),
         (b"\x05\0\0\0\0\0\0\0".as_slice(), "a byte too few"),
-        (b"\x06\x01\0\0\0\0\0\0\0\x02\0\0\0\x03\0\0\0\x04".as_slice(), "a mark of 4"),
+        (
+            b"\x06\x01\0\0\0\0\0\0\0\x02\0\0\0\x03\0\0\0\x04".as_slice(),
+            "a mark of 4",
+        ),
         (b"\x02\0\0\0\0\0\0\0\0\x02".as_slice(), "an origin of 2"),
     ] {
         assert!(rt; Entry::read(alloc, payload)?.is_none(), "{what}");

@@ -21,7 +21,10 @@ fn entries_are_written_as_records(rt: HostRuntime) -> Result<(), Fail> {
     let alloc = rt.alloc();
     let mut plant = over(alloc, b"", b"")?;
     let mut log = open_log(&mut plant, MOST).map_err(|_| "opens")?;
-    assert!(rt; log.append(alloc, &mut plant, &Entry::Moment { moment: 7 }).is_ok());
+    assert!(rt;
+        log.append(alloc, &mut plant, &Entry::Moment { moment: 7 })
+            .is_ok()
+    );
     let mut file = [9u8; 64];
     let count = plant.read(0, &mut file).map_err(|_| "reads")?;
     assert_eq!(rt; count, 27);
@@ -42,8 +45,14 @@ fn entries_are_read_in_order(rt: HostRuntime) -> Result<(), Fail> {
         place: 3,
         mark: Mark::Plain,
     };
-    assert!(rt; log.append(alloc, &mut plant, &Entry::Moment { moment: 7 }).is_ok());
-    assert!(rt; log.append(alloc, &mut plant, &Entry::Delivered { name }).is_ok());
+    assert!(rt;
+        log.append(alloc, &mut plant, &Entry::Moment { moment: 7 })
+            .is_ok()
+    );
+    assert!(rt;
+        log.append(alloc, &mut plant, &Entry::Delivered { name })
+            .is_ok()
+    );
     let mut again = open_log(&mut plant, MOST).map_err(|_| "opens again")?;
     assert_eq!(rt; again.gate(), 8);
     match again.next(alloc, &mut plant).map_err(|_| "reads")? {
@@ -56,7 +65,12 @@ fn entries_are_read_in_order(rt: HostRuntime) -> Result<(), Fail> {
         _ => assert!(rt; false, "the delivery"),
     }
     assert_eq!(rt; again.gate(), 26);
-    assert!(rt; again.next(alloc, &mut plant).map_err(|_| "reads")?.is_none());
+    assert!(rt;
+        again
+            .next(alloc, &mut plant)
+            .map_err(|_| "reads")?
+            .is_none()
+    );
     assert_eq!(rt; again.gate(), 26);
     Ok(())
 }
@@ -67,7 +81,10 @@ fn a_crash_leaves_the_entry_or_not(rt: HostRuntime) -> Result<(), Fail> {
     let alloc = rt.alloc();
     let mut plant = over(alloc, b"", b"")?;
     let mut log = open_log(&mut plant, MOST).map_err(|_| "opens")?;
-    assert!(rt; log.append(alloc, &mut plant, &Entry::Moment { moment: 7 }).is_ok());
+    assert!(rt;
+        log.append(alloc, &mut plant, &Entry::Moment { moment: 7 })
+            .is_ok()
+    );
     plant.fail_calls(Bytes::of(alloc, &[0, 0, 0, 1])?);
     let failed = log.append(alloc, &mut plant, &Entry::Moment { moment: 8 });
     assert_eq!(rt; failed.err(), Some(LogFault::DiskFault));
@@ -97,7 +114,11 @@ fn what_is_no_log_is_refused_at_its_place(rt: HostRuntime) -> Result<(), Fail> {
     for (rest, at, what) in [
         (b"\x01\x64\0\0\0\0\0\0\0\x05".as_slice(), 8, "past the end"),
         (b"\x01\x01\0\0\0\0\0\0\0\x09\0".as_slice(), 8, "no kind"),
-        (b"\x01\x0a\0\0\0\0\0\0\0\x05\x07\0\0\0\0\0\0\0\0\0".as_slice(), 8, "a byte left over"),
+        (
+            b"\x01\x0a\0\0\0\0\0\0\0\x05\x07\0\0\0\0\0\0\0\0\0".as_slice(),
+            8,
+            "a byte left over",
+        ),
         (TURN, 26, "no gate"),
     ] {
         let mut plant = over(alloc, b"MAILHUB1", rest)?;

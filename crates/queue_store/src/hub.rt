@@ -45,6 +45,7 @@ impl Hub {
     // Opens the log again where a disk fault broke it off.
     fn mend<P: Plant>(&mut self, alloc: Global, plant: &mut P) -> Result<(), HubFault>
         ensures whole { self.old.broken ≡ false → IsOk result × (self.new ≡ self.old) × (plant.new ≡ plant.old) }
+        ensures open { IsOk result → self.new.broken ≡ false }
         ensures stays { Stays (P.state plant.old) (P.state plant.new) }
         ensures shelf { IsTrue (P.state plant.old).honest → (P.state plant.new).image.shelf ≡ (P.state plant.old).image.shelf }
         ensures cause { IsErrOf result HubFault.DiskFault → Rose (P.state plant.old).disk_faults (P.state plant.new).disk_faults }
@@ -69,6 +70,7 @@ impl Hub {
             OnOk result (Adds limits (P.state plant.new) self.new h (entry ∷ [])) }
         ensures declines { (limits : Limits) (h : List Entry) → IsReady limits (P.state plant.old) self.old h →
             IfErr result (λ e. (e ≡ HubFault.DiskFault) ⊎ Declined limits (P.state plant.new) self.new h (entry ∷ []) e) }
+        ensures open { self.old.broken ≡ false → IsOk result → self.new.broken ≡ false }
         ensures shelf { IsTrue (P.state plant.old).honest → (P.state plant.new).image.shelf ≡ (P.state plant.old).image.shelf }
         ensures stays { Stays (P.state plant.old) (P.state plant.new) }
         ensures cause { IsErrOf result HubFault.DiskFault → Rose (P.state plant.old).disk_faults (P.state plant.new).disk_faults }
@@ -104,6 +106,7 @@ impl Hub {
         ensures declines { (limits : Limits) (h : List Entry) → IsReady limits (P.state plant.old) self.old h →
             IfErr result (λ e. (e ≡ HubFault.DiskFault)
             ⊎ Declined limits (P.state plant.new) self.new h (entries.Accepted (now_of self.old.state clock) submission ∷ []) e) }
+        ensures open { self.old.broken ≡ false → IsOk result → self.new.broken ≡ false }
         ensures shelf { IsTrue (P.state plant.old).honest → (P.state plant.new).image.shelf ≡ (P.state plant.old).image.shelf }
         ensures stays { Stays (P.state plant.old) (P.state plant.new) }
         ensures cause { IsErrOf result HubFault.DiskFault → Rose (P.state plant.old).disk_faults (P.state plant.new).disk_faults }
@@ -132,6 +135,8 @@ impl Hub {
             OnOk result (Adds limits (P.state plant.new) self.new h (entries_submit self.old.state clock submission)) }
         ensures declines { (limits : Limits) (h : List Entry) → IsReady limits (P.state plant.old) self.old h →
             IfErr result (λ e. (e ≡ HubFault.DiskFault) ⊎ Refuses limits (P.state plant.new) self.new h self.old.state submission clock e) }
+        // A log that a disk fault broke off was opened again.
+        ensures open { IsOk result → self.new.broken ≡ false }
         ensures shelf { IsTrue (P.state plant.old).honest → (P.state plant.new).image.shelf ≡ (P.state plant.old).image.shelf }
         ensures stays { Stays (P.state plant.old) (P.state plant.new) }
         ensures cause { IsErrOf result HubFault.DiskFault → Rose (P.state plant.old).disk_faults (P.state plant.new).disk_faults }
@@ -154,6 +159,7 @@ impl Hub {
 
     /// The number that the next new submission gets.
     pub fn next_number<P: Plant>(&mut self, alloc: Global, plant: &mut P) -> Result<u64, HubFault>
+        ensures open { IsOk result → self.new.broken ≡ false }
         ensures number { self.old.broken ≡ false → IsOkAnd result (λ number. number ≡ length self.old.state.live + 1) }
         ensures kept { (limits : Limits) (h : List Entry) → IsReady limits (P.state plant.old) self.old h → IsReady limits (P.state plant.new) self.new h }
         ensures stays { Stays (P.state plant.old) (P.state plant.new) }

@@ -3,9 +3,12 @@ ghost use Rattle.std.specs.Prelude.{◌<◌};
 // Whole calls of the program over ends and a plant in memory.
 use crate::status::Status;
 use crate::transport::transport;
-use mail_names::{Bytes, ItemName, Key, Mark};
+use hub_core::Limits;
+use mail_names::{Bytes, ItemName, Items, Key, Mark};
+use mail_plan::{Origin, Submission};
 use plant_dev::{MemoryPlant, Plant};
 use port_io::{MemoryClock, MemorySink, MemorySource};
+use queue_store::{Hub, HubFault};
 use std::alloc::Global;
 use std::process::Abort;
 use std::test::Fail;
@@ -115,6 +118,69 @@ fn repeats_and_recipients(rt: HostRuntime) -> Result<(), Fail> {
     let bob = Key::read(alloc, b"bob@example.com")?;
     let names = plant.list(alloc, &bob)?;
     assert_eq!(rt; names.len(), 2);
+    Ok(())
+}
+
+#[test]
+fn a_later_run_knows_what_an_earlier_one_accepted(rt: HostRuntime) -> Result<(), Fail> {
+    let alloc = rt.alloc();
+    let output =
+        b"220 hub.invalid mail hub ready\r\n250 hub.invalid\r\n250 OK\r\n250 OK\r\n354 End data with a dot line\r\n250 Accepted 1\r\n221 hub.invalid closing\r\n";
+    let other =
+        b"HELO c\r\nMAIL FROM:<>\r\nRCPT TO:<cyn@example.com>\r\nDATA\r\na: b\r\n\r\nx\r\n.\r\nQUIT\r\n";
+    let next =
+        b"220 hub.invalid mail hub ready\r\n250 hub.invalid\r\n250 OK\r\n250 OK\r\n354 End data with a dot line\r\n250 Accepted 2\r\n221 hub.invalid closing\r\n";
+    let mut plant = MemoryPlant::new(alloc, Bytes::new(alloc));
+    for (input, output) in [
+        (FIRST, output.as_slice()),
+        (FIRST, output.as_slice()),
+        (other.as_slice(), next.as_slice()),
+    ] {
+        let words = ["session"].as_slice();
+        check(
+            &rt,
+            alloc,
+            &mut plant,
+            words,
+            input,
+            4096,
+            Status::Done,
+            output,
+        )?;
+    }
+    let second = b"a: b\r\nMessage-Id: <2@hub.invalid>\r\n\r\nx\r\n";
+    check_item(&rt, alloc, &mut plant, b"cyn@example.com", 2, 0, second)?;
+    let bob = Key::read(alloc, b"bob@example.com")?;
+    assert_eq!(rt; plant.list(alloc, &bob)?.len(), 1);
+    Ok(())
+}
+
+// A hub that takes one submission answers the second with its numbers, and the first again with its own.
+#[test]
+fn a_full_queue(rt: HostRuntime) -> Result<(), Fail> {
+    let alloc = rt.alloc();
+    let mut plant = MemoryPlant::new(alloc, Bytes::new(alloc));
+    let limits = Limits {
+        live: 1,
+        ..Limits::usual()
+    };
+    let mut hub = Hub::open_hub(alloc, &mut plant, limits).map_err(|_| "opens")?;
+    for (text, answer) in [
+        (b"Message-Id: <1@a>\r\n\r\n".as_slice(), Ok((1, false))),
+        (
+            b"Message-Id: <2@a>\r\n\r\n".as_slice(),
+            Err(HubFault::QueueFull { live: 1, bytes: 21 }),
+        ),
+        (b"Message-Id: <1@a>\r\n\r\n".as_slice(), Ok((1, true))),
+    ] {
+        let mut keys = Items::new(alloc);
+        keys.push(Key::read(alloc, b"bob@example.com")?)?;
+        let bytes = Bytes::of(alloc, text)?;
+        let made = Submission::new(alloc, Origin::Smtp, None, keys, bytes);
+        let submission = made.ok().ok_or("no submission")?;
+        let accepted = hub.submit(alloc, &mut plant, submission, 7);
+        assert_eq!(rt; accepted.map(|a| (a.number, a.repeat)), answer);
+    }
     Ok(())
 }
 

@@ -117,6 +117,8 @@ fn run_session<P: Plant, S: Source, K: Sink, C: Clock>(
     ensures ran { (h : List Entry) → IsTrue (P.state plant.old).honest → Stands usual (P.state plant.old).image h → (Rose (P.state plant.old).disk_faults (P.state plant.new).disk_faults → ⊥) →
         (result ≡ Status.NoMemory) ⊎ Ran h (C.moments clock.old) (C.moments clock.new) (K.taken sink.old) (K.taken sink.new) (S.left source.old) (S.left source.new)
         (P.state plant.old).shelf_faults (P.state plant.new).shelf_faults (P.state plant.new).image result }
+    ensures log { (h : List Entry) → IsTrue (P.state plant.old).honest → Stands usual (P.state plant.old).image h → (Rose (P.state plant.old).disk_faults (P.state plant.new).disk_faults → ⊥) →
+        result ≡ Status.NotALog → ⊥ }
     ensures disk { result ≡ Status.DiskFault → Rose (P.state plant.old).disk_faults (P.state plant.new).disk_faults }
     ensures source { result ≡ Status.SourceFault → Rose (S.faults source.old) (S.faults source.new) }
     ensures sink { result ≡ Status.SinkFault → Rose (K.faults sink.old) (K.faults sink.new) }
@@ -160,6 +162,9 @@ pub fn transport<S: Source, K: Sink, P: Plant, C: Clock>(
         (Rose (P.state plant.old).disk_faults (P.state plant.new).disk_faults → ⊥) →
         (result ≡ Status.NoMemory) ⊎ Ran h (C.moments clock.old) (C.moments clock.new) (K.taken sink.old) (K.taken sink.new) (S.left source.old) (S.left source.new)
         (P.state plant.old).shelf_faults (P.state plant.new).shelf_faults (P.state plant.new).image result }
+    // Nor is a log told as none where the plant stands for a history.
+    ensures log { (h : List Entry) → IsTrue (P.state plant.old).honest → Stands usual (P.state plant.old).image h →
+        (Rose (P.state plant.old).disk_faults (P.state plant.new).disk_faults → ⊥) → result ≡ Status.NotALog → ⊥ }
     ensures usage { result ≡ Status.Usage → is_session (map (λ word. word.now) words.now) ≡ false }
     ensures usage_text { result ≡ Status.Usage → Appends (K.taken sink.old) (K.taken sink.new) usage_text }
     ensures other { is_session (map (λ word. word.now) words.now) ≡ false → (result ≡ Status.Usage) ⊎ (result ≡ Status.SinkFault) }

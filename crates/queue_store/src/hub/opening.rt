@@ -1,5 +1,5 @@
 // Opening: the state that the entries of a log leave.
-ghost use Rattle.std.specs.Prelude.{◌≡◌, ◌⊎◌, [], List, length, true, IsTrue, IfOk, IfErr, OnOk, IsErrOf};
+ghost use Rattle.std.specs.Prelude.{◌≡◌, ◌⊎◌, [], List, length, true, false, IsTrue, IfOk, IfErr, OnOk, IsErrOf};
 ghost use Rattle.port_io.specs.Causes.{Rose};
 ghost use Rattle.mail_plan.specs.declared.entry.Entry.{Entry};
 ghost use Rattle.plant_dev.specs.Disk.{Stays, Reads};
@@ -25,15 +25,12 @@ impl Hub {
     ///
     /// `NotALog` names the first octet at which the file is no log, or the gate of the first entry that can't stand
     /// behind those before it. What lies behind the first closed gate is ignored.
-    pub fn open_hub<P: Plant>(
-        alloc: Global,
-        plant: &mut P,
-        limits: Limits,
-    ) -> Result<Hub, HubFault>
+    pub fn open_hub<P: Plant>(alloc: Global, plant: &mut P, limits: Limits) -> Result<Hub, HubFault>
         ensures ready { (h : List Entry) → IsTrue (P.state plant.old).honest → Stands limits (P.state plant.old).image h →
             IfOk result (λ hub. IsReady limits (P.state plant.new) hub h) }
         ensures never { (h : List Entry) → IsTrue (P.state plant.old).honest → IsHistory limits h → FileOf (P.state plant.old).image.file h →
             IfErr result (λ e. (e ≡ HubFault.DiskFault) ⊎ (e ≡ HubFault.NoMemory)) }
+        ensures open { IfOk result (λ hub. hub.broken ≡ false) }
         ensures shelf { IsTrue (P.state plant.old).honest → (P.state plant.new).image.shelf ≡ (P.state plant.old).image.shelf }
         ensures stays { Stays (P.state plant.old) (P.state plant.new) }
         ensures cause { IsErrOf result HubFault.DiskFault → Rose (P.state plant.old).disk_faults (P.state plant.new).disk_faults }

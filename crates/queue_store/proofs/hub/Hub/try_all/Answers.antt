@@ -50,7 +50,7 @@ returns-in-Err-clause-stops g c limits h ready =
       | inr declined ↦ inr (
         so_far.0 ++ true ∷ [],
         stops-along limits _ _ h _ _ _ (Tried-stopped _ _ so_far.0 so_far.1 _ c.loop-name.name-index none name c.loop-name-test.true refl so_far.3)
-        (stops-joined limits _ _ _ _ h so_far.1 (entries_try c.loop-name.self.state name true) [] _ so_far.2 (stops-first limits _ _ _ _ _ declined)),
+            (stops-joined limits _ _ _ _ h so_far.1 (entries_try c.loop-name.self.state name true) [] _ so_far.2 (stops-first limits _ _ _ _ _ declined)),
         misses-more so_far.0 true _ _ _ so_far.4 c.try_item.ensures.stays.shelf_faults (λ e. absurd cc),
       )
     ]

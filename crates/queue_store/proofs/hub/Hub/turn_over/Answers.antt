@@ -42,8 +42,8 @@ returns-in-Ok-append-clause-stops g c limits h ready =
       | inr tried ↦ inr (
         tried.0,
         stops-along limits _ _ h _ _ e
-        (ap (λ (xs : List Entry). begun ++ xs) (append-nil _) ∙ turn-entries s _ c.args.clock moment _ tried.0 c.requires at named (state-goes limits _ _ _ _ h begun ready one.ready))
-        (stops-joined limits _ _ _ _ h begun _ [] e one tried.1),
+            (ap (λ (xs : List Entry). begun ++ xs) (append-nil _) ∙ turn-entries s _ c.args.clock moment _ tried.0 c.requires at named (state-goes limits _ _ _ _ h begun ready one.ready))
+            (stops-joined limits _ _ _ _ h begun _ [] e one tried.1),
         (let so_far = tried.2 in omega (arith, so_far, rise)),
       )
     ])
@@ -61,7 +61,7 @@ returns-clause-stops g c limits h ready =
       | inr declined ↦ inr (
         [],
         stops-along limits _ _ h _ _ _ (turn-entries s (after_entries s begun) c.args.clock moment (names_waiting s) [] c.requires at refl refl)
-        (stops-more limits _ _ h begun _ _ (stops-first limits _ _ h begun _ declined)),
+            (stops-more limits _ _ h begun _ _ (stops-first limits _ _ h begun _ declined)),
         omega (arith, rise),
       )
     ]

@@ -30,7 +30,7 @@ loop-state-preserved g c =
           let far = inv.read h honest read in
           let now = subst (λ (i : Image). IsRead i.file h far.done c.loop-state.log.place) (sym (inv.reads honest).image) far.read in
           let on = subst (λ (o : Option Entry). ReadsOn s1.image.file h far.done c.next.new.self.place (Ok o)) c.in-Some.is
-              (c.in_ok-entry.ensures.reads_on h far.done (stays_honest s0 s1 inv.stays honest) now) in
+          (c.in_ok-entry.ensures.reads_on h far.done (stays_honest s0 s1 inv.stays honest) now) in
           replayed_more c.args.limits s0.image.file h c.loop-state.log.place c.next.new.self.place c.loop-state.state c.go_on.new.state c.in-Some.entry far
           (subst (λ (i : Image). IsRead i.file h (far.done ++ c.in-Some.entry ∷ []) c.next.new.self.place) (inv.reads honest).image on)
           c.in_ok-go_on.ensures.goes;
@@ -44,7 +44,7 @@ returns-in_err-go_on-clause-never g c h honest history read =
     let far = inv.read h honest read in
     let now = subst (λ (i : Image). IsRead i.file h far.done c.loop-state.log.place) (sym (inv.reads honest).image) far.read in
     let on = subst (λ (o : Option Entry). ReadsOn s1.image.file h far.done c.next.new.self.place (Ok o)) c.in-Some.is
-        (c.in_ok-entry.ensures.reads_on h far.done (stays_honest s0 s1 inv.stays honest) now) in
+    (c.in_ok-entry.ensures.reads_on h far.done (stays_honest s0 s1 inv.stays honest) now) in
     let lawful = ap (λ (s : Standing). is_lawful s c.in-Some.entry) far.state ∙ lawful_next c.args.limits s1.image.file h far.done c.in-Some.entry _ history on in
     memory_fault _ _ c.from_residual-in_err-go_on.ensures.1 (c.in_err-go_on.ensures.lawful lawful)
 
