@@ -2,6 +2,8 @@
 use Rattle.std.specs.Prelude.{◌≡◌, ⊤, ℕ, ◌^◌, ◌<◌, List, length, Option, IfSome, Ok}
 use Rattle.std.specs.List.{AllByRecursion}
 use Rattle.mail_names.specs.Key.{IsKey}
+use Rattle.mail_names.specs.declared.gate.Gate.{Gate}
+use Rattle.mail_names.specs.declared.gate.Gate.TheVariants as gates
 use Rattle.mail_names.specs.declared.name.ItemName.{ItemName}
 use Rattle.journal_report.specs.declared.why.Why.{Why}
 use Rattle.journal_report.specs.declared.why.Why.TheVariants as whys
@@ -34,6 +36,10 @@ pub record IsName (name : ItemName) : Type 0 where
   pub submission : IsU64 name.submission
   pub release : IsU32 name.release
   pub place : IsU32 name.place
+
+abbrev pub IsGate : Gate → Type 0
+IsGate (gates.Object key) = IsKey key
+IsGate (gates.Rule place) = IsU32 place
 
 abbrev pub IsWhy : Why → Type 0
 IsWhy whys.Direct = ⊤

@@ -1,6 +1,9 @@
 -- The bytes of an entry in the log. Numbers are little-endian.
 use Rattle.std.specs.Prelude.{ℕ, List, [], ◌∷◌, ◌++◌, length, flat_map, Option, Some, None}
 use Rattle.std.specs.Int.{to_le_bytes, w32, w64}
+use Rattle.mail_names.specs.declared.gate.Gate.{Gate}
+use Rattle.mail_names.specs.declared.gate.Gate.TheVariants as gates
+use Rattle.mail_names.specs.declared.name.ApprovalName.{ApprovalName}
 use Rattle.mail_names.specs.declared.name.ItemName.{ItemName}
 use Rattle.mail_names.specs.declared.name.Mark.{Mark}
 use Rattle.mail_names.specs.declared.name.Mark.TheVariants as marks
@@ -44,6 +47,15 @@ form_mark marks.Failure = 3 ∷ []
 -- an item's name: u64 submission, u32 release, u32 place, mark
 abbrev pub form_name : ItemName → List ℕ
 form_name name = le64 name.submission ++ (le32 name.release ++ (le32 name.place ++ form_mark name.mark))
+
+-- an approval's name: u64 submission, u32 release, u32 gate
+abbrev pub form_approval : ApprovalName → List ℕ
+form_approval name = le64 name.submission ++ (le32 name.release ++ le32 name.gate)
+
+-- a gate: 0 and its key, or 1 and u32 place
+abbrev pub form_gate : Gate → List ℕ
+form_gate (gates.Object key) = 0 ∷ form_bytes key
+form_gate (gates.Rule place) = 1 ∷ le32 place
 
 abbrev pub form_kind : ItemKind → List ℕ
 form_kind kinds.Version = 0 ∷ []

@@ -2,15 +2,16 @@
 ghost use Rattle.std.specs.Prelude.{◌≡◌, ⊤, ℕ, ◌≤◌, List, length, flat_map, IfOk, IsErrOf, Ok};
 ghost use Rattle.std.specs.List.{AllByRecursion};
 ghost use Rattle.mail_names.specs.Key.{IsKey};
-ghost use Rattle.mail_plan.specs.EntryText.{form_bytes, form_key_option, form_all, form_mark, form_name, form_kind, form_why, form_item, form_release, form_origin, form_submission};
-ghost use Rattle.mail_plan.specs.Entries.{IsBytes, IsKeyOption, IsListOf, IsName, IsWhy, IsItem, IsRelease, IsOrigin, IsSubmission};
+ghost use Rattle.mail_names.specs.Names.{IsApprovalName};
+ghost use Rattle.mail_plan.specs.EntryText.{form_bytes, form_key_option, form_all, form_mark, form_name, form_approval, form_gate, form_kind, form_why, form_item, form_release, form_origin, form_submission};
+ghost use Rattle.mail_plan.specs.Entries.{IsBytes, IsKeyOption, IsListOf, IsName, IsGate, IsWhy, IsItem, IsRelease, IsOrigin, IsSubmission};
 ghost use Rattle.mail_plan.specs.Reading.{Reads, OneForm};
 ghost use Rattle.mail_plan.specs.Submission.{Submitted, submission_of};
 
 use crate::places::{Miss, byte_at, expect_at, slice_at, u32_at, u64_at};
 use crate::{Item, ItemKind, Origin, Release, Submission, SubmissionFault};
 use journal_report::Why;
-use mail_names::{Bytes, ItemName, Items, Key, Mark, NameFault};
+use mail_names::{ApprovalName, Bytes, Gate, ItemName, Items, Key, Mark, NameFault};
 use std::alloc::Global;
 
 /// A value with a form, of which lists are made.
@@ -113,6 +114,37 @@ pub fn name_at(bytes: &[u8], at: usize) -> Result<(ItemName, usize), Miss>
         mark,
     };
     Ok((name, end))
+}
+
+pub fn approval_name_at(bytes: &[u8], at: usize) -> Result<(ApprovalName, usize), Miss>
+    ensures { Reads IsApprovalName form_approval bytes.now at result }
+{
+    let (submission, at_release) = u64_at(bytes, at)?;
+    let (release, at_gate) = u32_at(bytes, at_release)?;
+    let (gate, end) = u32_at(bytes, at_gate)?;
+    let name = ApprovalName {
+        submission,
+        release,
+        gate,
+    };
+    Ok((name, end))
+}
+
+pub fn gate_at(alloc: Global, bytes: &[u8], at: usize) -> Result<(Gate, usize), Miss>
+    ensures { Reads IsGate form_gate bytes.now at result }
+{
+    let (tag, start) = byte_at(bytes, at)?;
+    match tag {
+        0 => {
+            let (key, end) = key_at(alloc, bytes, start)?;
+            Ok((Gate::Object { key }, end))
+        }
+        1 => {
+            let (place, end) = u32_at(bytes, start)?;
+            Ok((Gate::Rule { place }, end))
+        }
+        _ => Err(Miss::NoForm),
+    }
 }
 
 fn kind_at(bytes: &[u8], at: usize) -> Result<(ItemKind, usize), Miss>

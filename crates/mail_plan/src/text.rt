@@ -1,12 +1,13 @@
 // The bytes of entries in the log, written.
 ghost use Rattle.std.specs.Prelude.{◌≡◌, ◌++◌, OnOk, IfOk, option_copied};
 ghost use Rattle.mail_names.specs.Key.{IsKey};
-ghost use Rattle.mail_plan.specs.Entries.{IsU32, IsBytes, IsKeyOption, IsListOf, IsName, IsWhy, IsItem, IsRelease, IsOrigin, IsSubmission, IsEntry};
-ghost use Rattle.mail_plan.specs.EntryText.{le32, le64, form_bytes, form_key_option, form_all, form_mark, form_name, form_kind, form_why, form_item, form_release, form_origin, form_submission, entry_text};
+ghost use Rattle.mail_names.specs.Names.{IsApprovalName};
+ghost use Rattle.mail_plan.specs.Entries.{IsU32, IsBytes, IsKeyOption, IsListOf, IsName, IsGate, IsWhy, IsItem, IsRelease, IsOrigin, IsSubmission, IsEntry};
+ghost use Rattle.mail_plan.specs.EntryText.{le32, le64, form_bytes, form_key_option, form_all, form_mark, form_name, form_approval, form_gate, form_kind, form_why, form_item, form_release, form_origin, form_submission, entry_text};
 
 use crate::{Entry, Item, ItemKind, Origin, Release, Submission};
 use journal_report::Why;
-use mail_names::{Bytes, ItemName, Key, Mark, NoMemory};
+use mail_names::{ApprovalName, Bytes, Gate, ItemName, Key, Mark, NoMemory};
 use std::alloc::Global;
 
 #[tactic(auto, unfolding(crate::specs::EntryText::le64))]
@@ -116,6 +117,33 @@ pub fn put_item_name(into: &mut Bytes, value: &ItemName) -> Result<(), NoMemory>
     put_u32(into, value.release)?;
     put_u32(into, value.place)?;
     put_mark(into, value.mark)
+}
+
+/// Appends the three numbers of the name.
+pub fn put_approval_name(into: &mut Bytes, value: &ApprovalName) -> Result<(), NoMemory>
+    ensures text { OnOk result (into.new ≡ into.old ++ form_approval value.now) }
+    ensures fits { OnOk result (IsApprovalName value.now) }
+{
+    put_u64(into, value.submission)?;
+    put_u32(into, value.release)?;
+    put_u32(into, value.gate)
+}
+
+/// Appends 0 and the key of an object, or 1 and the place of a rule.
+pub fn put_gate(into: &mut Bytes, value: &Gate) -> Result<(), NoMemory>
+    ensures text { OnOk result (into.new ≡ into.old ++ form_gate value.now) }
+    ensures fits { OnOk result (IsGate value.now) }
+{
+    match value {
+        Gate::Object { key } => {
+            into.add(&[0])?;
+            put_key(into, key)
+        }
+        Gate::Rule { place } => {
+            into.add(&[1])?;
+            put_u32(into, *place)
+        }
+    }
 }
 
 fn put_kind(into: &mut Bytes, value: ItemKind) -> Result<(), NoMemory>
