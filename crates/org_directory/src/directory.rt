@@ -1,5 +1,5 @@
 // The directory.
-ghost use Rattle.std.specs.Prelude.{[], ◌≡◌, ◌+◌, ◌<◌, length, slice_get, Some};
+ghost use Rattle.std.specs.Prelude.{[], ◌≡◌, ◌+◌, ◌<◌, length, map, slice_get, Some};
 ghost use Rattle.org_directory.specs.Register.{IsSound, is_inside, place_of, is_deliverable, members_in};
 
 use crate::names::Names;
@@ -37,6 +37,19 @@ impl Directory {
             domains: Names::new(alloc),
             keys: Names::new(alloc),
             objects: Items::new(alloc),
+        }
+    }
+
+    /// The directory of these domains and objects, whose keys are given beside them. It takes no memory.
+    pub(crate) fn of(domains: Names, keys: Names, objects: Items<Object>) -> Directory
+        requires keys { keys ≡ map (λ o. o.key) objects }
+        requires sound { IsSound (record { domains = domains; objects = objects }) }
+        ensures { result ≡ record { domains = domains; objects = objects } }
+    {
+        Directory {
+            domains,
+            keys,
+            objects,
         }
     }
 

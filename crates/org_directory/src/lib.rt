@@ -2,11 +2,16 @@
 #![tactic(auto)]
 
 mod directory;
+mod draft;
 mod fault;
+mod first_pass;
 mod laws;
+mod line;
 mod membership;
 mod names;
 mod object;
+mod read_csv;
+mod second_pass;
 
 pub use directory::Directory;
 pub use fault::DirectoryFault;

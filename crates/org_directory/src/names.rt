@@ -1,5 +1,5 @@
 // Names in order, each once, found by an index.
-ghost use Rattle.std.specs.Prelude.{◌≡◌, [], ◌∷◌, ◌++◌, false, length, position, OnOk};
+ghost use Rattle.std.specs.Prelude.{◌≡◌, ◌<◌, [], ◌∷◌, ◌++◌, false, length, position, slice_get, Some, IfSome, OnOk};
 ghost use Rattle.std.specs.Str.{bytes_eq};
 ghost use Rattle.org_directory.specs.Register.{among};
 
@@ -41,9 +41,18 @@ impl Names {
 
     /// The first place of the name. It takes no memory.
     pub fn place(&self, name: &[u8]) -> Option<usize>
-        ensures { result ≡ position (bytes_eq name.now) self.now }
+        ensures place { result ≡ position (bytes_eq name.now) self.now }
+        ensures within { IfSome result (λ p. p < length self.now) }
     {
         self.index.get_index_of(name)
+    }
+
+    /// The name at a place.
+    pub fn name(&self, place: usize) -> &[u8]
+        requires { place < length self.now }
+        ensures { slice_get self.now place ≡ Some result.now }
+    {
+        self.index.as_slice()[place].as_slice()
     }
 
     /// Whether the name is there. It takes no memory.

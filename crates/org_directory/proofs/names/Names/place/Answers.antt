@@ -6,8 +6,8 @@ use Rattle.std.specs.declared.vec.Vec.{Vec}
 use Rattle.org_directory.proofs.Mapped.{position-map}
 use Rattle.org_directory.proofs.names.Names.place.Goals as goal
 
-pub returns : goal.returns
-returns c =
+pub returns-clause-place : goal.returns-clause-place
+returns-clause-place c =
     c.get_index_of.ensures.index
     ∙ (sym (position-map (bytes_eq c.args.name.now) (λ (v : Vec ℕ Global). v.items) c.self.inside.index.keys)
     ∙ ap (position (bytes_eq c.args.name.now)) c.self.view_is)
