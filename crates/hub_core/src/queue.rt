@@ -143,7 +143,12 @@ fn text_of(texts: &[SharedBytes], place: u32, alloc: Global) -> Result<SharedByt
 fn queued(alloc: Global, texts: &[SharedBytes], item: Item) -> Result<QueuedItem, NoMemory>
     ensures { IfOk result (λ made. made ≡ queued texts.now item) }
 {
-    let Item { name, folder, text } = item;
+    let Item {
+        name,
+        folder,
+        text,
+        ..
+    } = item;
     let text = text_of(texts, text, alloc)?;
     Ok(QueuedItem { name, folder, text })
 }

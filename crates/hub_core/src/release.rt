@@ -3,8 +3,9 @@ ghost use Rattle.std.specs.Prelude.{◌≡◌, true, IfOk, OnOk};
 ghost use Rattle.hub_core.specs.Release.{distinct, with_key, items_from, release_of};
 ghost use Rattle.hub_core.specs.Standing.{is_release};
 
+use journal_report::Why;
 use mail_names::{Bytes, ItemName, Items, Key, Mark, NoMemory};
-use mail_plan::{Item, Release, Submission};
+use mail_plan::{Item, ItemKind, Release, Submission};
 use std::alloc::Global;
 
 // Adds a key, unless it is there.
@@ -28,7 +29,7 @@ fn distinct(alloc: Global, keys: &[Key]) -> Result<Vec<Key>, NoMemory>
     Ok(kept)
 }
 
-// An item for each folder.
+// A version for each folder, sent directly.
 fn items_for(alloc: Global, number: u64, folders: &[Key]) -> Result<Items<Item>, NoMemory>
     ensures { IfOk result (λ items. items ≡ items_from number 0 folders.now) }
 {
@@ -43,6 +44,8 @@ fn items_for(alloc: Global, number: u64, folders: &[Key]) -> Result<Items<Item>,
                 mark: Mark::Plain,
             },
             folder: folder.copy(alloc)?,
+            kind: ItemKind::Version,
+            why: Why::Direct,
             text: 0,
         })?;
     }

@@ -9,13 +9,17 @@ use Rattle.mail_names.specs.declared.key.NameFault.TheVariants as faults
 use Rattle.mail_names.specs.declared.name.ItemName.{ItemName}
 use Rattle.mail_names.specs.declared.name.Mark.{Mark}
 use Rattle.mail_names.specs.declared.name.Mark.TheVariants as marks
-use Rattle.mail_plan.specs.EntryText.{le32, le64, form_bytes, form_key_option, form_all, form_mark, form_name, form_item, form_release, form_origin, form_submission, entry_text}
-use Rattle.mail_plan.specs.Entries.{IsU32, IsU64, IsBytes, IsKeyOption, IsListOf, IsName, IsItem, IsRelease, IsOrigin, IsSubmission, IsEntry}
+use Rattle.journal_report.specs.declared.why.Why.{Why}
+use Rattle.journal_report.specs.declared.why.Why.TheVariants as whys
+use Rattle.mail_plan.specs.EntryText.{le32, le64, form_bytes, form_key_option, form_all, form_mark, form_name, form_kind, form_why, form_item, form_release, form_origin, form_submission, entry_text}
+use Rattle.mail_plan.specs.Entries.{IsU32, IsU64, IsBytes, IsKeyOption, IsListOf, IsName, IsWhy, IsItem, IsRelease, IsOrigin, IsSubmission, IsEntry}
 use Rattle.mail_plan.specs.Reading.{OneForm}
 use Rattle.mail_plan.specs.Submission.{Submitted}
 use Rattle.mail_plan.specs.declared.submission.Origin.{Origin}
 use Rattle.mail_plan.specs.declared.submission.Origin.TheVariants as origins
 use Rattle.mail_plan.specs.declared.release.Item.{Item}
+use Rattle.mail_plan.specs.declared.release.ItemKind.{ItemKind}
+use Rattle.mail_plan.specs.declared.release.ItemKind.TheVariants as kinds
 use Rattle.mail_plan.specs.declared.release.Release.{Release}
 use Rattle.mail_plan.specs.declared.entry.Entry.TheVariants as entries
 use Rattle.mail_plan.proofs.Numbers.{length-le32, length-le64, le32_same, le64_same}
@@ -123,19 +127,6 @@ one_name a b more rest here there is =
     let s = one_mark a.mark b.mark more rest tt tt r.1 in
     (same_name a b p.0 q.0 r.0 s.0, s.1)
 
-same_item : (a b : Item) → a.name ≡ b.name → a.folder ≡ b.folder → a.text ≡ b.text → a ≡ b
-same_item a b name folder text =
-    ap (λ (x : ItemName). record { name = x; folder = a.folder; text = a.text }) name
-    ∙ ap (λ (x : List ℕ). record { name = b.name; folder = x; text = a.text }) folder
-    ∙ ap (λ (x : ℕ). record { name = b.name; folder = b.folder; text = x }) text
-
-pub one_item : OneForm IsItem form_item
-one_item a b more rest here there is =
-    let p = parts IsName form_name one_name a.name b.name _ _ more rest here.name there.name is in
-    let q = parts IsKey form_bytes one_key a.folder b.folder _ _ more rest here.folder there.folder p.1 in
-    let r = one_le32 a.text b.text more rest here.text there.text (ap (λ (l : List ℕ). drop 2 l) q.1) in
-    (same_item a b p.0 q.0 r.0, r.1)
-
 module _ {A : Type 0} (Is : A → Type 0) (form : A → List ℕ) (one : OneForm Is form) where
   one_row : (xs ys : List A) (more rest : List ℕ) → length xs ≡ length ys → AllByRecursion Is xs → AllByRecursion Is ys → flat_map form xs ++ more ≡ flat_map form ys ++ rest → (xs ≡ ys) × (more ≡ rest)
   one_row [] [] more rest long here there is = (refl, is)
@@ -150,6 +141,76 @@ module _ {A : Type 0} (Is : A → Type 0) (form : A → List ℕ) (one : OneForm
   one_list xs ys more rest here there is =
       let p = parts IsU32 le32 one_le32 (length xs) (length ys) _ _ more rest here.0 there.0 is in
       one_row xs ys more rest p.0 here.1 there.1 p.1
+
+kind_of : List ℕ → ItemKind
+kind_of [] = kinds.Version
+kind_of (zero ∷ bytes) = kinds.Version
+kind_of (suc zero ∷ bytes) = kinds.Report
+kind_of (suc (suc zero) ∷ bytes) = kinds.Request
+kind_of (suc (suc (suc n)) ∷ bytes) = kinds.Notice
+
+kind_back : (k : ItemKind) (more : List ℕ) → kind_of (form_kind k ++ more) ≡ k
+unfolding kind_of
+kind_back kinds.Version more = refl
+kind_back kinds.Report more = refl
+kind_back kinds.Request more = refl
+kind_back kinds.Notice more = refl
+
+kind_behind : (k : ItemKind) (more : List ℕ) → drop 1 (form_kind k ++ more) ≡ more
+kind_behind kinds.Version more = refl
+kind_behind kinds.Report more = refl
+kind_behind kinds.Request more = refl
+kind_behind kinds.Notice more = refl
+
+abbrev pub IsKind : ItemKind → Type 0
+IsKind k = ⊤
+
+pub one_kind : OneForm IsKind form_kind
+one_kind a b more rest here there is = (
+  sym (kind_back a more) ∙ ap kind_of is ∙ kind_back b rest,
+  sym (kind_behind a more) ∙ ap (λ (l : List ℕ). drop 1 l) is ∙ kind_behind b rest,
+)
+
+pub one_why : OneForm IsWhy form_why
+one_why whys.Direct whys.Direct more rest here there is = (refl, ap (λ (l : List ℕ). drop 1 l) is)
+one_why (whys.Via a) (whys.Via b) more rest here there is =
+    let p = one_list IsKey form_bytes one_key a b more rest here there (ap (λ (l : List ℕ). drop 1 l) is) in
+    (ap (λ (k : List (List ℕ)). whys.Via k) p.0, p.1)
+one_why (whys.Copied a) (whys.Copied b) more rest here there is =
+    let p = one_le32 a b more rest here there (ap (λ (l : List ℕ). drop 1 l) is) in
+    (ap (λ (n : ℕ). whys.Copied n) p.0, p.1)
+one_why (whys.Redirected a) (whys.Redirected b) more rest here there is =
+    let p = one_le32 a b more rest here there (ap (λ (l : List ℕ). drop 1 l) is) in
+    (ap (λ (n : ℕ). whys.Redirected n) p.0, p.1)
+one_why whys.Direct (whys.Via b) more rest here there is = absurd (cc is)
+one_why whys.Direct (whys.Copied b) more rest here there is = absurd (cc is)
+one_why whys.Direct (whys.Redirected b) more rest here there is = absurd (cc is)
+one_why (whys.Via a) whys.Direct more rest here there is = absurd (cc is)
+one_why (whys.Via a) (whys.Copied b) more rest here there is = absurd (cc is)
+one_why (whys.Via a) (whys.Redirected b) more rest here there is = absurd (cc is)
+one_why (whys.Copied a) whys.Direct more rest here there is = absurd (cc is)
+one_why (whys.Copied a) (whys.Via b) more rest here there is = absurd (cc is)
+one_why (whys.Copied a) (whys.Redirected b) more rest here there is = absurd (cc is)
+one_why (whys.Redirected a) whys.Direct more rest here there is = absurd (cc is)
+one_why (whys.Redirected a) (whys.Via b) more rest here there is = absurd (cc is)
+one_why (whys.Redirected a) (whys.Copied b) more rest here there is = absurd (cc is)
+
+same_item : (a b : Item) → a.name ≡ b.name → a.folder ≡ b.folder → a.kind ≡ b.kind → a.why ≡ b.why → a.text ≡ b.text → a ≡ b
+same_item a b name folder kind why text =
+    ap (λ (x : ItemName). record { name = x; folder = a.folder; kind = a.kind; why = a.why; text = a.text }) name
+    ∙ ap (λ (x : List ℕ). record { name = b.name; folder = x; kind = a.kind; why = a.why; text = a.text }) folder
+    ∙ ap (λ (x : ItemKind). record { name = b.name; folder = b.folder; kind = x; why = a.why; text = a.text }) kind
+    ∙ ap (λ (x : Why). record { name = b.name; folder = b.folder; kind = b.kind; why = x; text = a.text }) why
+    ∙ ap (λ (x : ℕ). record { name = b.name; folder = b.folder; kind = b.kind; why = b.why; text = x }) text
+
+pub one_item : OneForm IsItem form_item
+one_item a b more rest here there is =
+    let p = parts IsName form_name one_name a.name b.name _ _ more rest here.name there.name is in
+    let q = parts IsKey form_bytes one_key a.folder b.folder _ _ more rest here.folder there.folder p.1 in
+    let k = parts IsKind form_kind one_kind a.kind b.kind _ _ more rest tt tt q.1 in
+    let w = parts IsWhy form_why one_why a.why b.why _ _ more rest here.why there.why k.1 in
+    let r = one_le32 a.text b.text more rest here.text there.text w.1 in
+    (same_item a b p.0 q.0 k.0 w.0 r.0, r.1)
 
 zeros : length (le32 0 ++ le32 0) ≡ 8
 unfolding le32

@@ -58,10 +58,6 @@ pub one_text : (a b bytes : List ℕ) (at mid end : ℕ) → length a ≡ length
 one_text a b bytes at mid end long s t =
     sym (take_at a (drop mid bytes) (length a) refl) ∙ ap (λ (l : List ℕ). take (length a) l) (sym s.there ∙ t.there) ∙ take_at b (drop end bytes) (length a) (sym long)
 
--- what is behind a text
-pub behind_text : (a rest bytes : List ℕ) (at mid end : ℕ) → Stands a bytes at mid → Stands (a ++ rest) bytes at end → Stands rest bytes mid end
-behind_text a rest bytes at mid end got s = back a rest bytes at end s mid got.behind
-
 pub same_last : {A : Type 0} (Is : A → Type 0) (form : A → List ℕ) (one : OneForm Is form) (a b : A) (bytes : List ℕ) (at mid end : ℕ) → Is a × Stands (form a) bytes at mid → Is b → Stands (form b) bytes at end → b ≡ a
 same_last Is form one a b bytes at mid end got is s =
     same Is form one a b [] bytes at mid end got is (subst (λ (t : List ℕ). Stands t bytes at end) (sym (append-nil (form b))) s)

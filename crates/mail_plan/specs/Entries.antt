@@ -2,7 +2,11 @@
 use Rattle.std.specs.Prelude.{◌≡◌, ⊤, ℕ, ◌^◌, ◌<◌, List, length, Option, IfSome, Ok}
 use Rattle.std.specs.List.{AllByRecursion}
 use Rattle.mail_names.specs.Key.{IsKey}
+use Rattle.mail_names.specs.declared.gate.Gate.{Gate}
+use Rattle.mail_names.specs.declared.gate.Gate.TheVariants as gates
 use Rattle.mail_names.specs.declared.name.ItemName.{ItemName}
+use Rattle.journal_report.specs.declared.why.Why.{Why}
+use Rattle.journal_report.specs.declared.why.Why.TheVariants as whys
 use Rattle.mail_plan.specs.Submission.{Submitted, submission_of}
 use Rattle.mail_plan.specs.declared.submission.Origin.{Origin}
 use Rattle.mail_plan.specs.declared.submission.Origin.TheVariants as origins
@@ -33,9 +37,20 @@ pub record IsName (name : ItemName) : Type 0 where
   pub release : IsU32 name.release
   pub place : IsU32 name.place
 
+abbrev pub IsGate : Gate → Type 0
+IsGate (gates.Object key) = IsKey key
+IsGate (gates.Rule place) = IsU32 place
+
+abbrev pub IsWhy : Why → Type 0
+IsWhy whys.Direct = ⊤
+IsWhy (whys.Via groups) = IsListOf IsKey groups
+IsWhy (whys.Copied rule) = IsU32 rule
+IsWhy (whys.Redirected rule) = IsU32 rule
+
 pub record IsItem (item : Item) : Type 0 where
   pub name : IsName item.name
   pub folder : IsKey item.folder
+  pub why : IsWhy item.why
   pub text : IsU32 item.text
 
 pub record IsRelease (release : Release) : Type 0 where

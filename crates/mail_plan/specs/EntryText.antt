@@ -1,13 +1,20 @@
 -- The bytes of an entry in the log. Numbers are little-endian.
 use Rattle.std.specs.Prelude.{ℕ, List, [], ◌∷◌, ◌++◌, length, flat_map, Option, Some, None}
 use Rattle.std.specs.Int.{to_le_bytes, w32, w64}
+use Rattle.mail_names.specs.declared.gate.Gate.{Gate}
+use Rattle.mail_names.specs.declared.gate.Gate.TheVariants as gates
+use Rattle.mail_names.specs.declared.name.ApprovalName.{ApprovalName}
 use Rattle.mail_names.specs.declared.name.ItemName.{ItemName}
 use Rattle.mail_names.specs.declared.name.Mark.{Mark}
 use Rattle.mail_names.specs.declared.name.Mark.TheVariants as marks
+use Rattle.journal_report.specs.declared.why.Why.{Why}
+use Rattle.journal_report.specs.declared.why.Why.TheVariants as whys
 use Rattle.mail_plan.specs.Submission.{Submitted}
 use Rattle.mail_plan.specs.declared.submission.Origin.{Origin}
 use Rattle.mail_plan.specs.declared.submission.Origin.TheVariants as origins
 use Rattle.mail_plan.specs.declared.release.Item.{Item}
+use Rattle.mail_plan.specs.declared.release.ItemKind.{ItemKind}
+use Rattle.mail_plan.specs.declared.release.ItemKind.TheVariants as kinds
 use Rattle.mail_plan.specs.declared.release.Release.{Release}
 use Rattle.mail_plan.specs.declared.entry.Entry.{Entry}
 use Rattle.mail_plan.specs.declared.entry.Entry.TheVariants as entries
@@ -41,9 +48,32 @@ form_mark marks.Failure = 3 ∷ []
 abbrev pub form_name : ItemName → List ℕ
 form_name name = le64 name.submission ++ (le32 name.release ++ (le32 name.place ++ form_mark name.mark))
 
--- an item: its name, its folder, kind 0 (a version), why 0 (sent directly), u32 text
+-- an approval's name: u64 submission, u32 release, u32 gate
+abbrev pub form_approval : ApprovalName → List ℕ
+form_approval name = le64 name.submission ++ (le32 name.release ++ le32 name.gate)
+
+-- a gate: 0 and its key, or 1 and u32 place
+abbrev pub form_gate : Gate → List ℕ
+form_gate (gates.Object key) = 0 ∷ form_bytes key
+form_gate (gates.Rule place) = 1 ∷ le32 place
+
+abbrev pub form_kind : ItemKind → List ℕ
+form_kind kinds.Version = 0 ∷ []
+form_kind kinds.Report = 1 ∷ []
+form_kind kinds.Request = 2 ∷ []
+form_kind kinds.Notice = 3 ∷ []
+
+-- why: 0, 1 and the groups, or 2 or 3 and u32 rule
+abbrev pub form_why : Why → List ℕ
+form_why whys.Direct = 0 ∷ []
+form_why (whys.Via groups) = 1 ∷ form_all form_bytes groups
+form_why (whys.Copied rule) = 2 ∷ le32 rule
+form_why (whys.Redirected rule) = 3 ∷ le32 rule
+
+-- an item: its name, its folder, its kind, its why, u32 text
 abbrev pub form_item : Item → List ℕ
-form_item item = form_name item.name ++ (form_bytes item.folder ++ (0 ∷ 0 ∷ le32 item.text))
+form_item item =
+    form_name item.name ++ (form_bytes item.folder ++ (form_kind item.kind ++ (form_why item.why ++ le32 item.text)))
 
 -- a release: its texts, its items, no holds and no ends
 abbrev pub form_release : Release → List ℕ

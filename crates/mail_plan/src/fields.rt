@@ -2,14 +2,16 @@
 ghost use Rattle.std.specs.Prelude.{◌≡◌, ⊤, ℕ, ◌≤◌, List, length, flat_map, IfOk, IsErrOf, Ok};
 ghost use Rattle.std.specs.List.{AllByRecursion};
 ghost use Rattle.mail_names.specs.Key.{IsKey};
-ghost use Rattle.mail_plan.specs.EntryText.{form_bytes, form_key_option, form_all, form_mark, form_name, form_item, form_release, form_origin, form_submission};
-ghost use Rattle.mail_plan.specs.Entries.{IsBytes, IsKeyOption, IsListOf, IsName, IsItem, IsRelease, IsOrigin, IsSubmission};
+ghost use Rattle.mail_names.specs.Names.{IsApprovalName};
+ghost use Rattle.mail_plan.specs.EntryText.{form_bytes, form_key_option, form_all, form_mark, form_name, form_approval, form_gate, form_kind, form_why, form_item, form_release, form_origin, form_submission};
+ghost use Rattle.mail_plan.specs.Entries.{IsBytes, IsKeyOption, IsListOf, IsName, IsGate, IsWhy, IsItem, IsRelease, IsOrigin, IsSubmission};
 ghost use Rattle.mail_plan.specs.Reading.{Reads, OneForm};
 ghost use Rattle.mail_plan.specs.Submission.{Submitted, submission_of};
 
 use crate::places::{Miss, byte_at, expect_at, slice_at, u32_at, u64_at};
-use crate::{Item, Origin, Release, Submission, SubmissionFault};
-use mail_names::{Bytes, ItemName, Items, Key, Mark, NameFault};
+use crate::{Item, ItemKind, Origin, Release, Submission, SubmissionFault};
+use journal_report::Why;
+use mail_names::{ApprovalName, Bytes, Gate, ItemName, Items, Key, Mark, NameFault};
 use std::alloc::Global;
 
 /// A value with a form, of which lists are made.
@@ -114,15 +116,88 @@ pub fn name_at(bytes: &[u8], at: usize) -> Result<(ItemName, usize), Miss>
     Ok((name, end))
 }
 
-// An item that is a version and was sent directly.
+pub fn approval_name_at(bytes: &[u8], at: usize) -> Result<(ApprovalName, usize), Miss>
+    ensures { Reads IsApprovalName form_approval bytes.now at result }
+{
+    let (submission, at_release) = u64_at(bytes, at)?;
+    let (release, at_gate) = u32_at(bytes, at_release)?;
+    let (gate, end) = u32_at(bytes, at_gate)?;
+    let name = ApprovalName {
+        submission,
+        release,
+        gate,
+    };
+    Ok((name, end))
+}
+
+pub fn gate_at(alloc: Global, bytes: &[u8], at: usize) -> Result<(Gate, usize), Miss>
+    ensures { Reads IsGate form_gate bytes.now at result }
+{
+    let (tag, start) = byte_at(bytes, at)?;
+    match tag {
+        0 => {
+            let (key, end) = key_at(alloc, bytes, start)?;
+            Ok((Gate::Object { key }, end))
+        }
+        1 => {
+            let (place, end) = u32_at(bytes, start)?;
+            Ok((Gate::Rule { place }, end))
+        }
+        _ => Err(Miss::NoForm),
+    }
+}
+
+fn kind_at(bytes: &[u8], at: usize) -> Result<(ItemKind, usize), Miss>
+    ensures { Reads (λ k. ⊤) form_kind bytes.now at result }
+{
+    let (number, end) = byte_at(bytes, at)?;
+    match number {
+        0 => Ok((ItemKind::Version, end)),
+        1 => Ok((ItemKind::Report, end)),
+        2 => Ok((ItemKind::Request, end)),
+        3 => Ok((ItemKind::Notice, end)),
+        _ => Err(Miss::NoForm),
+    }
+}
+
+pub fn why_at(alloc: Global, bytes: &[u8], at: usize) -> Result<(Why, usize), Miss>
+    ensures { Reads IsWhy form_why bytes.now at result }
+{
+    let (tag, start) = byte_at(bytes, at)?;
+    match tag {
+        0 => Ok((Why::Direct, start)),
+        1 => {
+            let (groups, end) = list_at(alloc, bytes, start)?;
+            Ok((Why::Via { groups }, end))
+        }
+        2 => {
+            let (rule, end) = u32_at(bytes, start)?;
+            Ok((Why::Copied { rule }, end))
+        }
+        3 => {
+            let (rule, end) = u32_at(bytes, start)?;
+            Ok((Why::Redirected { rule }, end))
+        }
+        _ => Err(Miss::NoForm),
+    }
+}
+
 fn item_at(alloc: Global, bytes: &[u8], at: usize) -> Result<(Item, usize), Miss>
     ensures { Reads IsItem form_item bytes.now at result }
 {
     let (name, at_folder) = name_at(bytes, at)?;
     let (folder, at_kind) = key_at(alloc, bytes, at_folder)?;
-    let at_text = expect_at(bytes, at_kind, &[0, 0])?;
+    let (kind, at_why) = kind_at(bytes, at_kind)?;
+    let (why, at_text) = why_at(alloc, bytes, at_why)?;
     let (text, end) = u32_at(bytes, at_text)?;
-    Ok((Item { name, folder, text }, end))
+    let item = Item {
+        name,
+        folder,
+        kind,
+        why,
+        text,
+    };
+    Ok((item, end))
 }
 
 impl Field for Bytes {

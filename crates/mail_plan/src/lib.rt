@@ -15,12 +15,14 @@ mod text;
 pub use entry::Entry;
 pub use intake::{Accepted, Intake, IntakeFault, IntakeStep};
 pub use read::{
-    get_bytes, get_item_name, get_key, get_key_option, get_keys, get_origin, get_release,
+    get_approval_name, get_bytes, get_gate, get_item_name, get_key, get_key_option, get_keys,
+    get_origin, get_release, get_why,
 };
-pub use release::{Item, Release};
+pub use release::{Item, ItemKind, Release};
 pub use submission::{Origin, Submission, SubmissionFault};
 pub use text::{
-    put_bytes, put_item_name, put_key, put_key_option, put_keys, put_origin, put_release,
+    put_approval_name, put_bytes, put_gate, put_item_name, put_key, put_key_option, put_keys,
+    put_origin, put_release, put_why,
 };
 
 #[cfg(test)]

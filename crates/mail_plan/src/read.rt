@@ -1,16 +1,19 @@
 // The bytes of entries in the log, read.
 ghost use Rattle.std.specs.Prelude.{◌≡◌};
 ghost use Rattle.mail_names.specs.Key.{IsKey};
-ghost use Rattle.mail_plan.specs.EntryText.{form_bytes, form_key_option, form_all, form_name, form_release, form_origin, form_accepted, form_categorised, entry_text};
-ghost use Rattle.mail_plan.specs.Entries.{IsBytes, IsKeyOption, IsListOf, IsName, IsRelease, IsOrigin, IsAccepted, IsCategorised, IsEntry};
+ghost use Rattle.mail_names.specs.Names.{IsApprovalName};
+ghost use Rattle.mail_plan.specs.EntryText.{form_bytes, form_key_option, form_all, form_name, form_approval, form_gate, form_why, form_release, form_origin, form_accepted, form_categorised, entry_text};
+ghost use Rattle.mail_plan.specs.Entries.{IsBytes, IsKeyOption, IsListOf, IsName, IsGate, IsWhy, IsRelease, IsOrigin, IsAccepted, IsCategorised, IsEntry};
 ghost use Rattle.mail_plan.specs.Reading.{Reads, Finds, ReadsAll, found_of};
 
 use crate::fields::{
-    bytes_at, key_at, key_option_at, list_at, name_at, origin_at, release_at, submission_at,
+    approval_name_at, bytes_at, gate_at, key_at, key_option_at, list_at, name_at, origin_at,
+    release_at, submission_at, why_at,
 };
 use crate::places::{Miss, byte_at, u32_at, u64_at};
 use crate::{Entry, Origin, Release, Submission};
-use mail_names::{Bytes, ItemName, Items, Key, NoMemory};
+use journal_report::Why;
+use mail_names::{ApprovalName, Bytes, Gate, ItemName, Items, Key, NoMemory};
 use std::alloc::Global;
 
 // None where no such form stands.
@@ -76,6 +79,29 @@ pub fn get_item_name(bytes: &[u8], at: usize) -> Result<Option<(ItemName, usize)
     ensures { Finds IsName form_name bytes.now at result }
 {
     found(name_at(bytes, at))
+}
+
+/// The name of an approval that stands at a place: its three numbers, and the place behind it. None where there is none.
+pub fn get_approval_name(bytes: &[u8], at: usize) -> Result<Option<(ApprovalName, usize)>, NoMemory>
+    ensures { Finds IsApprovalName form_approval bytes.now at result }
+{
+    found(approval_name_at(bytes, at))
+}
+
+/// The gate that stands at a place: 0 and the key of an object, or 1 and the place of a rule, and the place behind it.
+/// None where there is none.
+pub fn get_gate(alloc: Global, bytes: &[u8], at: usize) -> Result<Option<(Gate, usize)>, NoMemory>
+    ensures { Finds IsGate form_gate bytes.now at result }
+{
+    found(gate_at(alloc, bytes, at))
+}
+
+/// The reason that stands at a place: 0 where the envelope names the target, 1 and the groups, or 2 or 3 and the
+/// place of the rule that copies or redirects, and the place behind it. None where there is none.
+pub fn get_why(alloc: Global, bytes: &[u8], at: usize) -> Result<Option<(Why, usize)>, NoMemory>
+    ensures { Finds IsWhy form_why bytes.now at result }
+{
+    found(why_at(alloc, bytes, at))
 }
 
 /// The release that stands at a place: its texts and its items, with no holds and no ends, and the place behind it. None where there is none.

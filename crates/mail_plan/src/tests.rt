@@ -1,8 +1,10 @@
 use crate::{
-    Entry, Item, Origin, Release, Submission, get_bytes, get_item_name, get_key, get_key_option,
-    get_keys, get_origin, get_release, put_release,
+    Entry, Item, ItemKind, Origin, Release, Submission, get_approval_name, get_bytes, get_gate,
+    get_item_name, get_key, get_key_option, get_keys, get_origin, get_release, get_why,
+    put_approval_name, put_gate, put_release, put_why,
 };
-use mail_names::{Bytes, ItemName, Items, Key, Mark};
+use journal_report::Why;
+use mail_names::{ApprovalName, Bytes, Gate, ItemName, Items, Key, Mark};
 use std::alloc::Global;
 use std::test::Fail;
 
@@ -43,6 +45,10 @@ fn release(alloc: Global) -> Result<Release, Fail> {
     items.push(Item {
         name: NAME,
         folder: key(alloc)?,
+        kind: ItemKind::Version,
+        why: Why::Via {
+            groups: keys(alloc)?,
+        },
         text: 0,
     })?;
     Ok(Release { texts, items })
@@ -130,5 +136,71 @@ fn lists_are_read_behind_their_count(rt: HostRuntime) -> Result<(), Fail> {
     assert_eq!(rt; found.texts.len(), 1);
     assert_eq!(rt; found.items.len(), 1);
     assert_eq!(rt; end, text.as_slice().len());
+    let item = found.items.as_slice().first().ok_or("an item")?;
+    assert_eq!(rt; item.kind, ItemKind::Version);
+    assert!(rt;
+        item.why
+            == Why::Via {
+                groups: keys(alloc)?
+            }
+    );
+    Ok(())
+}
+
+#[test]
+fn reasons_are_written_and_read(rt: HostRuntime) -> Result<(), Fail> {
+    let alloc = rt.alloc();
+    for (why, bytes) in [
+        (Why::Direct, b"\0".as_slice()),
+        (Why::Copied { rule: 7 }, b"\x02\x07\0\0\0".as_slice()),
+        (Why::Redirected { rule: 7 }, b"\x03\x07\0\0\0".as_slice()),
+    ] {
+        let mut text = Bytes::new(alloc);
+        put_why(&mut text, &why)?;
+        assert_eq!(rt; text.as_slice(), bytes);
+        let (found, end) = get_why(alloc, bytes, 0)?.ok_or("a reason")?;
+        assert!(rt; found == why);
+        assert_eq!(rt; end, bytes.len());
+    }
+    assert!(rt; get_why(alloc, b"\x04\0\0\0\0", 0)?.is_none());
+    Ok(())
+}
+
+#[test]
+fn approval_names_are_written_and_read(rt: HostRuntime) -> Result<(), Fail> {
+    let alloc = rt.alloc();
+    let name = ApprovalName {
+        submission: 1,
+        release: 2,
+        gate: 3,
+    };
+    let bytes = b"\x01\0\0\0\0\0\0\0\x02\0\0\0\x03\0\0\0".as_slice();
+    let mut text = Bytes::new(alloc);
+    put_approval_name(&mut text, &name)?;
+    assert_eq!(rt; text.as_slice(), bytes);
+    let (found, end) = get_approval_name(bytes, 0)?.ok_or("a name")?;
+    assert_eq!(rt; found, name);
+    assert_eq!(rt; end, 16);
+    assert!(rt; get_approval_name(bytes, 1)?.is_none());
+    Ok(())
+}
+
+#[test]
+fn gates_are_written_and_read(rt: HostRuntime) -> Result<(), Fail> {
+    let alloc = rt.alloc();
+    let mut object = Bytes::of(alloc, b"\0")?;
+    object.add(KEY_TEXT)?;
+    for (gate, bytes) in [
+        (Gate::Object { key: key(alloc)? }, object.as_slice()),
+        (Gate::Rule { place: 7 }, b"\x01\x07\0\0\0".as_slice()),
+    ] {
+        let mut text = Bytes::new(alloc);
+        put_gate(&mut text, &gate)?;
+        assert_eq!(rt; text.as_slice(), bytes);
+        let (found, end) = get_gate(alloc, bytes, 0)?.ok_or("a gate")?;
+        assert!(rt; found == gate);
+        assert_eq!(rt; end, bytes.len());
+    }
+    assert!(rt; get_gate(alloc, b"\x02\0\0\0\0", 0)?.is_none());
     Ok(())
 }

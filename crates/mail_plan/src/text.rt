@@ -1,11 +1,13 @@
 // The bytes of entries in the log, written.
 ghost use Rattle.std.specs.Prelude.{◌≡◌, ◌++◌, OnOk, IfOk, option_copied};
 ghost use Rattle.mail_names.specs.Key.{IsKey};
-ghost use Rattle.mail_plan.specs.Entries.{IsU32, IsBytes, IsKeyOption, IsListOf, IsName, IsItem, IsRelease, IsOrigin, IsSubmission, IsEntry};
-ghost use Rattle.mail_plan.specs.EntryText.{le32, le64, form_bytes, form_key_option, form_all, form_mark, form_name, form_item, form_release, form_origin, form_submission, entry_text};
+ghost use Rattle.mail_names.specs.Names.{IsApprovalName};
+ghost use Rattle.mail_plan.specs.Entries.{IsU32, IsBytes, IsKeyOption, IsListOf, IsName, IsGate, IsWhy, IsItem, IsRelease, IsOrigin, IsSubmission, IsEntry};
+ghost use Rattle.mail_plan.specs.EntryText.{le32, le64, form_bytes, form_key_option, form_all, form_mark, form_name, form_approval, form_gate, form_kind, form_why, form_item, form_release, form_origin, form_submission, entry_text};
 
-use crate::{Entry, Item, Origin, Release, Submission};
-use mail_names::{Bytes, ItemName, Key, Mark, NoMemory};
+use crate::{Entry, Item, ItemKind, Origin, Release, Submission};
+use journal_report::Why;
+use mail_names::{ApprovalName, Bytes, Gate, ItemName, Key, Mark, NoMemory};
 use std::alloc::Global;
 
 #[tactic(auto, unfolding(crate::specs::EntryText::le64))]
@@ -117,13 +119,75 @@ pub fn put_item_name(into: &mut Bytes, value: &ItemName) -> Result<(), NoMemory>
     put_mark(into, value.mark)
 }
 
+/// Appends the three numbers of the name.
+pub fn put_approval_name(into: &mut Bytes, value: &ApprovalName) -> Result<(), NoMemory>
+    ensures text { OnOk result (into.new ≡ into.old ++ form_approval value.now) }
+    ensures fits { OnOk result (IsApprovalName value.now) }
+{
+    put_u64(into, value.submission)?;
+    put_u32(into, value.release)?;
+    put_u32(into, value.gate)
+}
+
+/// Appends 0 and the key of an object, or 1 and the place of a rule.
+pub fn put_gate(into: &mut Bytes, value: &Gate) -> Result<(), NoMemory>
+    ensures text { OnOk result (into.new ≡ into.old ++ form_gate value.now) }
+    ensures fits { OnOk result (IsGate value.now) }
+{
+    match value {
+        Gate::Object { key } => {
+            into.add(&[0])?;
+            put_key(into, key)
+        }
+        Gate::Rule { place } => {
+            into.add(&[1])?;
+            put_u32(into, *place)
+        }
+    }
+}
+
+fn put_kind(into: &mut Bytes, value: ItemKind) -> Result<(), NoMemory>
+    ensures { OnOk result (into.new ≡ into.old ++ form_kind value) }
+{
+    match value {
+        ItemKind::Version => into.add(&[0]),
+        ItemKind::Report => into.add(&[1]),
+        ItemKind::Request => into.add(&[2]),
+        ItemKind::Notice => into.add(&[3]),
+    }
+}
+
+/// Appends 0 where the envelope names the target, 1 and the groups, or 2 or 3 and the place of the rule that
+/// copies or redirects.
+pub fn put_why(into: &mut Bytes, value: &Why) -> Result<(), NoMemory>
+    ensures text { OnOk result (into.new ≡ into.old ++ form_why value.now) }
+    ensures fits { OnOk result (IsWhy value.now) }
+{
+    match value {
+        Why::Direct => into.add(&[0]),
+        Why::Via { groups } => {
+            into.add(&[1])?;
+            put_keys(into, groups.as_slice())
+        }
+        Why::Copied { rule } => {
+            into.add(&[2])?;
+            put_u32(into, *rule)
+        }
+        Why::Redirected { rule } => {
+            into.add(&[3])?;
+            put_u32(into, *rule)
+        }
+    }
+}
+
 fn put_item(into: &mut Bytes, value: &Item) -> Result<(), NoMemory>
     ensures text { OnOk result (into.new ≡ into.old ++ form_item value.now) }
     ensures fits { OnOk result (IsItem value.now) }
 {
     put_item_name(into, &value.name)?;
     put_key(into, &value.folder)?;
-    into.add(&[0, 0])?;
+    put_kind(into, value.kind)?;
+    put_why(into, &value.why)?;
     put_u32(into, value.text)
 }
 

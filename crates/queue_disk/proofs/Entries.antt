@@ -50,7 +50,7 @@ pub length-push : (h : List Entry) (entry : Entry) → length (log_of (h ++ entr
 length-push h entry =
     ap (λ (ps : List (List ℕ)). length (log_text ps)) (payloads-push h entry) ∙ length-log_text (payloads h) (entry_text entry)
 
-all-push : {X : Type 0} (P : X → Type 0) (xs : List X) (x : X) → AllByRecursion P xs → P x → AllByRecursion P (xs ++ x ∷ [])
+pub all-push : {X : Type 0} (P : X → Type 0) (xs : List X) (x : X) → AllByRecursion P xs → P x → AllByRecursion P (xs ++ x ∷ [])
 all-push P [] x each one = (one, tt)
 all-push P (y ∷ xs) x each one = (each.0, all-push P xs x each.1 one)
 

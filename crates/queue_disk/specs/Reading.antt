@@ -96,3 +96,22 @@ ReadsOn file h done place (Err (NotALog at)) = ⊥
 ReadsOn file h done place (Err DiskFault) = ⊤
 ReadsOn file h done place (Err NoMemory) = ⊤
 ReadsOn file h done place (Err (LogFull length)) = ⊥
+
+-- The file begins as the log of these entries, whose next gate would stand at this place.
+pub record Begins (file : List ℕ) (done : List Entry) (place : ℕ) : Type 0 where
+  pub entries : AllByRecursion IsEntry done
+  pub at : place ≡ length (log_of done)
+  pub front : take place file ≡ log_of done
+
+-- The first place at which a file that begins as a log is none: there stands neither an entry's record nor a closed gate.
+pub record BadAt (file : List ℕ) (at : ℕ) : Type 0 where
+  pub done : List Entry
+  pub begins : Begins file done at
+  pub none : NoEntry (drop at file)
+
+-- why a file that begins as a log isn't read
+abbrev pub ReadFault : List ℕ → LogFault → Type 0
+ReadFault file (NotALog at) = BadAt file at
+ReadFault file DiskFault = ⊤
+ReadFault file NoMemory = ⊤
+ReadFault file (LogFull length) = ⊥

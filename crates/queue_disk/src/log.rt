@@ -4,8 +4,8 @@ ghost use Rattle.port_io.specs.Causes.{Rose};
 ghost use Rattle.plant_dev.specs.Disk.{Stays, Reads, OnFile, LeavesOnly, From};
 ghost use Rattle.mail_plan.specs.declared.entry.Entry.{Entry};
 ghost use Rattle.mail_plan.specs.EntryText.{le64, entry_text};
-ghost use Rattle.queue_disk.specs.Reading.{NextAnswer, IsRead, ReadsOn};
-ghost use Rattle.queue_disk.specs.Log.{Frames, log_of, IsOpen, OneMore, FullAnswer};
+ghost use Rattle.queue_disk.specs.Reading.{NextAnswer, IsRead, ReadsOn, Begins, ReadFault};
+ghost use Rattle.queue_disk.specs.Log.{Frames, LogOf, log_of, IsOpen, OneMore, FullAnswer};
 
 use crate::fault::LogFault;
 use crate::gated::write_behind;
@@ -198,6 +198,12 @@ pub fn read_all<P: Plant>(
         OnOk result (log.new.place ≡ length (log_of h)) }
     ensures never { (h : List Entry) → IsTrue (P.state plant.old).honest → IsRead (P.state plant.old).image.file h [] log.old.place →
         IfErr result (λ e. (e ≡ LogFault.DiskFault) ⊎ (e ≡ LogFault.NoMemory)) }
+
+    // Of any file that begins as a log: what is read is all of a log, and what isn't is none from the place told on.
+    ensures whole { IsTrue (P.state plant.old).honest → Begins (P.state plant.old).image.file [] log.old.place →
+        IfOk result (λ found. LogOf (P.state plant.old).image.file found.items) }
+    ensures bad { IsTrue (P.state plant.old).honest → Begins (P.state plant.old).image.file [] log.old.place →
+        IfErr result (λ e. ReadFault (P.state plant.old).image.file e) }
 {
     let mut entries = Vec::new(alloc);
     while let Some(entry) = log.next(alloc, plant)? {

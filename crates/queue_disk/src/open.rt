@@ -3,7 +3,7 @@ ghost use Rattle.std.specs.Prelude.{◌≡◌, ◌<◌, ◌^◌, [], List, lengt
 ghost use Rattle.port_io.specs.Causes.{Rose};
 ghost use Rattle.plant_dev.specs.Disk.{Stays, OnFile, LeavesOnly, From, Follows, Durable};
 ghost use Rattle.mail_plan.specs.declared.entry.Entry.{Entry};
-ghost use Rattle.queue_disk.specs.Reading.{IsRead};
+ghost use Rattle.queue_disk.specs.Reading.{IsRead, Begins};
 ghost use Rattle.queue_disk.specs.Log.{LogOf, FileOf, KeepsEntries, HeadAnswer, HeadFault, IsLog};
 
 use crate::fault::LogFault;
@@ -43,6 +43,7 @@ pub fn open_log<P: Plant>(plant: &mut P, most: u64) -> Result<Log, LogFault>
     ensures opened { IsTrue (P.state plant.old).honest → OnOk result (IsLog (P.state plant.old).image.file (P.state plant.new).image.file) }
     ensures stands { (h : List Entry) → IsTrue (P.state plant.old).honest → FileOf (P.state plant.old).image.file h → OnOk result (LogOf (P.state plant.new).image.file h) }
     ensures unread { (h : List Entry) → IsTrue (P.state plant.old).honest → FileOf (P.state plant.old).image.file h → OnOk result (IsRead (P.state plant.new).image.file h [] 8) }
+    ensures begins { IsTrue (P.state plant.old).honest → OnOk result (Begins (P.state plant.new).image.file [] 8) }
     ensures never { (h : List Entry) → IsTrue (P.state plant.old).honest → FileOf (P.state plant.old).image.file h → IfErr result (λ e. e ≡ LogFault.DiskFault) }
     // Each image behind it comes from one whose file is the one that was read.
     ensures kept { IsTrue (P.state plant.old).honest → OnOk result (Follows (λ d c. (d.file ≡ (P.state plant.old).image.file) × (c.shelf ≡ d.shelf)) (P.state plant.old) (P.state plant.new)) }

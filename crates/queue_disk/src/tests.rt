@@ -75,33 +75,74 @@ fn entries_are_read_in_order(rt: HostRuntime) -> Result<(), Fail> {
     Ok(())
 }
 
-// The second sync of the second append fails: each image has its entry or not, and opens.
+// How many entries a log has that this plant keeps.
+fn entries_of(alloc: Global, plant: &mut MemoryPlant) -> Result<usize, LogFault> {
+    let mut log = open_log(plant, MOST)?;
+    Ok(read_all(alloc, plant, &mut log)?.len())
+}
+
+// One of the four calls of the second append fails. Each image opens, and has its entry or not: before the gate is
+// opened never, and before the last sync maybe.
 #[test]
 fn a_crash_leaves_the_entry_or_not(rt: HostRuntime) -> Result<(), Fail> {
     let alloc = rt.alloc();
-    let mut plant = over(alloc, b"", b"")?;
-    let mut log = open_log(&mut plant, MOST).map_err(|_| "opens")?;
-    assert!(rt;
-        log.append(alloc, &mut plant, &Entry::Moment { moment: 7 })
-            .is_ok()
-    );
-    plant.fail_calls(Bytes::of(alloc, &[0, 0, 0, 1])?);
-    let failed = log.append(alloc, &mut plant, &Entry::Moment { moment: 8 });
-    assert_eq!(rt; failed.err(), Some(LogFault::DiskFault));
-    let mut with = 0u64;
-    let mut without = 0u64;
-    for pick in 0..64 {
-        let mut image = plant.crash(pick << 18)?;
-        let mut again = open_log(&mut image, MOST).map_err(|_| "opens again")?;
-        let entries = read_all(alloc, &mut image, &mut again).map_err(|_| "reads")?;
-        match entries.len() {
-            1 => without = without.saturating_add(1),
-            2 => with = with.saturating_add(1),
-            _ => assert!(rt; false, "one entry or two"),
+    for failing in 0..4usize {
+        let mut plant = over(alloc, b"", b"")?;
+        let mut log = open_log(&mut plant, MOST).map_err(|_| "opens")?;
+        assert!(rt;
+            log.append(alloc, &mut plant, &Entry::Moment { moment: 7 })
+                .is_ok()
+        );
+        plant.fail_calls(Bytes::of(alloc, &[0, 0, 0, 1][3 - failing..])?);
+        let failed = log.append(alloc, &mut plant, &Entry::Moment { moment: 8 });
+        assert_eq!(rt; failed.err(), Some(LogFault::DiskFault));
+        let mut with = 0u64;
+        let mut without = 0u64;
+        for pick in 0..64 {
+            let mut image = plant.crash(pick << 18)?;
+            match entries_of(alloc, &mut image).map_err(|_| "reads")? {
+                1 => without = without.saturating_add(1),
+                2 => with = with.saturating_add(1),
+                _ => assert!(rt; false, "one entry or two"),
+            }
         }
+        assert_eq!(rt; with > 0, failing == 3);
+        assert!(rt; without > 0);
     }
-    assert!(rt; with > 0);
-    assert!(rt; without > 0);
+    Ok(())
+}
+
+// The log of one entry, changed at each octet and cut at each: what is read of it, or where it is none.
+#[test]
+fn damage_is_told_at_its_place(rt: HostRuntime) -> Result<(), Fail> {
+    let alloc = rt.alloc();
+    let mut good = Bytes::of(alloc, b"MAILHUB1")?;
+    good.add(TURN)?;
+    good.add(&[0])?;
+    let good = good.as_slice();
+    for at in 0..27usize {
+        let mut file = Bytes::of(alloc, &good[..at])?;
+        file.add(&[good[at] ^ 255])?;
+        file.add(&good[at..][1..])?;
+        let read = entries_of(alloc, &mut MemoryPlant::new(alloc, file));
+        let wanted = match at {
+            0..=7 => Err(LogFault::NotALog { at: at as u64 }),
+            8 => Ok(0),
+            9..=17 => Err(LogFault::NotALog { at: 8 }),
+            _ => Ok(1),
+        };
+        assert_eq!(rt; read, wanted, "octet {at} changed");
+    }
+    for size in 0..27usize {
+        let file = Bytes::of(alloc, &good[..size])?;
+        let read = entries_of(alloc, &mut MemoryPlant::new(alloc, file));
+        let wanted = match size {
+            0..=9 => Ok(0),
+            26 => Err(LogFault::NotALog { at: 26 }),
+            _ => Err(LogFault::NotALog { at: 8 }),
+        };
+        assert_eq!(rt; read, wanted, "cut to {size}");
+    }
     Ok(())
 }
 
@@ -139,7 +180,7 @@ fn a_full_log_takes_no_more(rt: HostRuntime) -> Result<(), Fail> {
     let refused = log.append(alloc, &mut plant, &entry).err();
     assert_eq!(rt; refused, Some(LogFault::LogFull { length: 27 }));
     let mut empty = over(alloc, b"", b"")?;
-    let mut small = open_log(&mut empty, 26).map_err(|_| "opens")?;
+    let mut small = open_log(&mut empty, 20).map_err(|_| "opens")?;
     let refused = small.append(alloc, &mut empty, &entry).err();
     assert_eq!(rt; refused, Some(LogFault::LogFull { length: 9 }));
     Ok(())

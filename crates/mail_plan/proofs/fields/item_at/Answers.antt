@@ -1,10 +1,9 @@
-use Rattle.std.proofs.Common.{[], ◌∷◌}
 use Rattle.mail_names.specs.Key.{IsKey}
-use Rattle.mail_plan.specs.EntryText.{le32, form_bytes, form_name, form_item}
-use Rattle.mail_plan.specs.Entries.{IsU32, IsName, IsItem}
-use Rattle.mail_plan.proofs.Standing.{first, behind, behind_text}
-use Rattle.mail_plan.proofs.Forms.{one_key, one_name}
-use Rattle.mail_plan.proofs.Parts.{passed_on, text_passed_on}
+use Rattle.mail_plan.specs.EntryText.{le32, form_bytes, form_name, form_kind, form_why, form_item}
+use Rattle.mail_plan.specs.Entries.{IsU32, IsName, IsWhy, IsItem}
+use Rattle.mail_plan.proofs.Standing.{first, behind}
+use Rattle.mail_plan.proofs.Forms.{IsKind, one_key, one_name, one_kind, one_why}
+use Rattle.mail_plan.proofs.Parts.{passed_on}
 use Rattle.mail_plan.proofs.fields.item_at.Goals as goal
 
 pub returns-in_err-name : goal.returns-in_err-name
@@ -23,27 +22,44 @@ returns-in_err-folder c =
     (x.folder, is.folder, first _ _ bytes at_folder end t))
     c.in_err-folder.ensures
 
-pub returns-in_err-at_text : goal.returns-in_err-at_text
-returns-in_err-at_text c =
+pub returns-in_err-kind : goal.returns-in_err-kind
+returns-in_err-kind c =
     let bytes = c.args.bytes.now in
     let at_folder = c.in_ok-name.at_folder in
     let at_kind = c.in_ok-folder.at_kind in
-    text_passed_on (0 ∷ 0 ∷ []) IsItem form_item bytes c.args.at at_kind c.in_err-at_text.field-0.0 c.from_residual-in_err-at_text.result c.from_residual-in_err-at_text.ensures.1
+    passed_on IsKind form_kind IsItem form_item bytes c.args.at at_kind c.in_err-kind.field-0.0 c.from_residual-in_err-kind.result c.from_residual-in_err-kind.ensures.1
     (λ x end is s.
     let t = behind IsName form_name one_name c.in_ok-name.name x.name _ bytes c.args.at at_folder end c.in_ok-name.ensures is.name s in
     let u = behind IsKey form_bytes one_key c.in_ok-folder.folder x.folder _ bytes at_folder at_kind end c.in_ok-folder.ensures is.folder t in
-    first (0 ∷ 0 ∷ []) (le32 x.text) bytes at_kind end u)
-    c.in_err-at_text.ensures
+    (x.kind, tt, first _ _ bytes at_kind end u))
+    c.in_err-kind.ensures
+
+pub returns-in_err-why : goal.returns-in_err-why
+returns-in_err-why c =
+    let bytes = c.args.bytes.now in
+    let at_folder = c.in_ok-name.at_folder in
+    let at_kind = c.in_ok-folder.at_kind in
+    let at_why = c.in_ok-kind.at_why in
+    passed_on IsWhy form_why IsItem form_item bytes c.args.at at_why c.in_err-why.field-0.0 c.from_residual-in_err-why.result c.from_residual-in_err-why.ensures.1
+    (λ x end is s.
+    let t = behind IsName form_name one_name c.in_ok-name.name x.name _ bytes c.args.at at_folder end c.in_ok-name.ensures is.name s in
+    let u = behind IsKey form_bytes one_key c.in_ok-folder.folder x.folder _ bytes at_folder at_kind end c.in_ok-folder.ensures is.folder t in
+    let v = behind IsKind form_kind one_kind c.in_ok-kind.kind x.kind _ bytes at_kind at_why end c.in_ok-kind.ensures tt u in
+    (x.why, is.why, first _ _ bytes at_why end v))
+    c.in_err-why.ensures
 
 pub returns-in_err-text : goal.returns-in_err-text
 returns-in_err-text c =
     let bytes = c.args.bytes.now in
     let at_folder = c.in_ok-name.at_folder in
     let at_kind = c.in_ok-folder.at_kind in
-    let at_text = c.in_ok-at_text.at_text in
+    let at_why = c.in_ok-kind.at_why in
+    let at_text = c.in_ok-why.at_text in
     passed_on IsU32 le32 IsItem form_item bytes c.args.at at_text c.in_err-text.field-0.0 c.from_residual-in_err-text.result c.from_residual-in_err-text.ensures.1
     (λ x end is s.
     let t = behind IsName form_name one_name c.in_ok-name.name x.name _ bytes c.args.at at_folder end c.in_ok-name.ensures is.name s in
     let u = behind IsKey form_bytes one_key c.in_ok-folder.folder x.folder _ bytes at_folder at_kind end c.in_ok-folder.ensures is.folder t in
-    (x.text, is.text, record { end = end; stands = behind_text (0 ∷ 0 ∷ []) (le32 x.text) bytes at_kind at_text end c.in_ok-at_text.ensures u }))
+    let v = behind IsKind form_kind one_kind c.in_ok-kind.kind x.kind _ bytes at_kind at_why end c.in_ok-kind.ensures tt u in
+    let w = behind IsWhy form_why one_why c.in_ok-why.why x.why _ bytes at_why at_text end c.in_ok-why.ensures is.why v in
+    (x.text, is.text, record { end = end; stands = w }))
     c.in_err-text.ensures

@@ -1,7 +1,7 @@
 use Rattle.std.proofs.Common.{List, ℕ, ◌-◌, ◌^◌, [], IsTrue}
 use Rattle.plant_dev.specs.Disk.{Stays, Reads}
 use Rattle.mail_plan.specs.declared.entry.Entry.{Entry}
-use Rattle.queue_disk.specs.Reading.{IsRead}
+use Rattle.queue_disk.specs.Reading.{IsRead, Begins}
 use Rattle.queue_disk.proofs.log.read_all.Given as goal
 
 abbrev pub invariant-loop-entries : goal.invariant-loop-entries
@@ -11,6 +11,7 @@ invariant-loop-entries g l =
     record {
       stays : Stays s0 s;
       reads : IsTrue s0.honest → Reads s0 s;
+      begins : IsTrue s0.honest → Begins s0.image.file [] l.initial.log.place → Begins s0.image.file l.entries.items l.log.place;
       read : (h : List Entry) → IsTrue s0.honest → IsRead s0.image.file h [] l.initial.log.place → IsRead s0.image.file h l.entries.items l.log.place;
     }
 

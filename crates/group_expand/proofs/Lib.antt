@@ -1,0 +1,7 @@
+pub mod Growth
+pub mod Listed
+pub mod Room
+pub mod Steps
+pub mod Table
+pub mod Walking
+pub mod Words

@@ -1,0 +1,26 @@
+use Rattle.std.proofs.Common.{◌≡◌, ◌+◌, ◌<◌, ◌≤◌, ℕ, [], subst, sym, arith, Some, None}
+use Rattle.group_expand.specs.Places.{Ready, Holds, Faces, Took, all_owed}
+use Rattle.org_directory.specs.Register.{key_at, place_of}
+use Rattle.group_expand.proofs.Steps.{left_out, root-faced, stranger-holds}
+use Rattle.org_directory.proofs.Places.{found-below}
+use Rattle.group_expand.proofs.walk.root_step.Goals as goal
+
+pub returns-then-marks-place-clause-holds : goal.returns-then-marks-place-clause-holds
+returns-then-marks-place-clause-holds g c = λ whole roots h.
+    let is : place_of c.args.directory.now c.args.root.now ≡ Some c.in-Some.place = (cc (c.in-Some.is, c.find.ensures)) in
+    left_out c.args.directory.now c.args.closed.now whole roots c.args.marks.now [] c.in-Some.place c.args.found.now c.requires.ready.sound (found-below c.args.directory.now c.args.root.now c.in-Some.place is).0 c.if-marks-place.true
+    (root-faced c.args.directory.now c.args.closed.now whole roots c.args.marks.now c.args.found.now c.args.root.now c.in-Some.place is h)
+
+pub returns-in_ok-stranger-in-None-clause-holds : goal.returns-in_ok-stranger-in-None-clause-holds
+returns-in_ok-stranger-in-None-clause-holds g c = λ whole roots h.
+    let none : place_of c.args.directory.now c.args.root.now ≡ None = cc (c.in-None.is, c.find.ensures) in
+    subst (λ f. Holds c.args.directory.now c.args.closed.now whole roots c.args.marks.now [] f) (sym c.in_ok-stranger-in-None.ensures)
+    (stranger-holds c.args.directory.now c.args.closed.now whole roots c.args.marks.now c.args.found.now c.args.root.now none h)
+
+pub returns-in_ok-run-in-Some-clause-holds : goal.returns-in_ok-run-in-Some-clause-holds
+returns-in_ok-run-in-Some-clause-holds g c = λ whole roots h.
+    let is : place_of c.args.directory.now c.args.root.now ≡ Some c.in-Some.place = (cc (c.in-Some.is, c.find.ensures)) in
+    let facing : Faces c.args.directory.now c.args.closed.now whole roots c.args.marks.now c.args.stack.now.items (key_at c.args.directory.now c.in-Some.place) c.args.found.now
+    = subst (λ s. Faces c.args.directory.now c.args.closed.now whole roots c.args.marks.now s (key_at c.args.directory.now c.in-Some.place) c.args.found.now) (sym c.requires.empty) (root-faced c.args.directory.now c.args.closed.now whole roots c.args.marks.now c.args.found.now c.args.root.now c.in-Some.place is h) in
+    subst (λ s. Holds c.args.directory.now c.args.closed.now whole roots c.run.new.marks s c.run.new.found) c.in_ok-run-in-Some.ensures.done
+    (c.in_ok-run-in-Some.ensures.holds whole roots (c.in_ok-visit-in-Some.ensures.met whole roots facing))

@@ -1,0 +1,12 @@
+use Rattle.std.proofs.Common.{◌≡◌, ◌+◌, ◌≤◌, ℕ, List, [], drop, length}
+use Rattle.group_expand.specs.Ways.{first_of_each}
+use Rattle.group_expand.specs.Routes.{all_ways, shut_by}
+use Rattle.group_expand.specs.Places.{all_owed, owed, no_marks, Ready, Holds}
+use Rattle.group_expand.proofs.walk.walk_roots.Given as goal
+
+abbrev pub invariant-loop-root : goal.invariant-loop-root
+invariant-loop-root g l =
+    (Ready l.directory l.marks l.stack.items)
+    × (l.stack.items ≡ [])
+    × (Holds l.directory l.closed (first_of_each (all_ways l.directory (shut_by l.directory l.closed) l.roots)) (drop l.root-index l.roots) l.marks [] l.found)
+    × (l.steps + all_owed l.directory l.marks [] ≤ l.fn.steps + owed l.directory.objects (no_marks l.directory.objects))

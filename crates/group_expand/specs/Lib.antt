@@ -1,0 +1,6 @@
+pub mod Expansion
+pub mod Marked
+pub mod Paths
+pub mod Places
+pub mod Routes
+pub mod Ways

@@ -1,0 +1,111 @@
+-- The marked walk by places: marks, a stack, and the ways found.
+use Rattle.std.specs.Prelude.{replicate, ◌≡◌, ◌<◌, ◌≤◌, ◌+◌, ◌-◌, ℕ, Bool, true, false, not, ◌||◌, if◌then◌else◌, List, [], ◌∷◌, ◌++◌, length, map, reverse, drop, Option, Some, None, slice_get, get_or, slice_set, sum_by, All}
+use Rattle.org_directory.specs.Register.{Register, IsSound, key_at, keys_at, members_in, is_group, place_of, among}
+use Rattle.group_expand.specs.Marked.{Frame, frame, Holding, Facing}
+use Rattle.org_directory.specs.declared.object.Object.{Object}
+use Rattle.group_expand.specs.declared.way.Way.{Way}
+use Rattle.group_expand.specs.declared.walk.Entered.{Entered}
+use Rattle.group_expand.specs.Routes.{web_of, shut_by}
+
+abbrev pub places_of : Register → List Entered → List (List ℕ)
+places_of reg stack = map (λ e. key_at reg e.place) stack
+
+abbrev pub is_no_group : Option Object → Bool
+is_no_group None = true
+is_no_group (Some o) = not (is_group o.kind)
+
+-- whether a way ends at the object of this place
+abbrev pub ends_at : Register → List Bool → ℕ → Bool
+ends_at reg table p = get_or table p false || is_no_group (slice_get reg.objects p)
+
+abbrev pub entry : ℕ → ℕ → Entered
+entry p k = record { place = p; taken = k }
+
+-- the stack with a group entered on it, unless ways end there
+abbrev pub entered : Bool → List Entered → ℕ → List Entered
+entered true stack p = stack
+entered false stack p = stack ++ entry p 0 ∷ []
+
+-- the members that are still to be taken
+abbrev pub frame_of : Register → Entered → Frame
+frame_of reg e = frame (key_at reg e.place) (keys_at reg (drop e.taken (members_in (slice_get reg.objects e.place))))
+
+abbrev pub frames_of : Register → List Entered → List Frame
+frames_of reg es = map (frame_of reg) es
+
+abbrev pub marked_at : List Bool → List Way → List ℕ → Option ℕ → Bool
+marked_at marks found key None = among key (map (λ w. w.key) found)
+marked_at marks found key (Some p) = get_or marks p false
+
+-- the keys that were had: by the marks, and for keys that are no object by the ways found
+abbrev pub had_by : Register → List Bool → List Way → List ℕ → Bool
+had_by reg marks found key = marked_at marks found key (place_of reg key)
+
+abbrev pub cost : Bool → ℕ
+cost true = 0
+cost false = 1
+
+-- how many objects have no mark
+abbrev pub unmarked : List Bool → ℕ
+unmarked marks = sum_by cost marks
+
+-- What is found, and the first ways of what a plain listing has before it, are the whole.
+abbrev pub Holds : Register → List Bool → List Way → List (List ℕ) → List Bool → List Entered → List Way → Type 0
+Holds reg table whole roots marks stack found =
+    Holding (web_of reg (shut_by reg table)) (length reg.objects + 1) whole roots (had_by reg marks found) (frames_of reg (reverse stack)) found
+
+abbrev pub Faces : Register → List Bool → List Way → List (List ℕ) → List Bool → List Entered → List ℕ → List Way → Type 0
+Faces reg table whole roots marks stack key found =
+    Facing (web_of reg (shut_by reg table)) (length reg.objects + 1) whole roots (had_by reg marks found) (frames_of reg (reverse stack)) key found
+
+abbrev pub price : Object → Bool → ℕ
+price o true = 0
+price o false = if is_group o.kind then length o.members + 1 else 0
+
+-- the calls of `member_at` that groups without a mark can still cost
+abbrev pub owed : List Object → List Bool → ℕ
+owed [] marks = 0
+owed (o ∷ os) [] = 0
+owed (o ∷ os) (m ∷ ms) = price o m + owed os ms
+
+abbrev pub left_of : Register → Entered → ℕ
+left_of reg e = length (members_in (slice_get reg.objects e.place)) + 1 - e.taken
+
+-- the calls that the walk can still make
+abbrev pub all_owed : Register → List Bool → List Entered → ℕ
+all_owed reg marks stack = owed reg.objects marks + sum_by (left_of reg) stack
+
+pub record Ready (reg : Register) (marks : List Bool) (stack : List Entered) : Type 0 where
+  pub sound : IsSound reg
+  pub long : length marks ≡ length reg.objects
+  pub in_range : All (λ e. e.place < length reg.objects) stack
+  pub within : All (λ e. e.taken ≤ length (members_in (slice_get reg.objects e.place))) stack
+  pub deep : length stack + unmarked marks ≤ length reg.objects
+
+-- The last group entered gave its next member, or had none and was left.
+abbrev pub Took : Register → Option ℕ → List Entered → List Entered → Type 0
+Took reg None old left =
+    (e : Entered) × (old ≡ left ++ e ∷ []) × (slice_get (members_in (slice_get reg.objects e.place)) e.taken ≡ None)
+Took reg (Some m) old left =
+    (front : List Entered) × (e : Entered) × (old ≡ front ++ e ∷ []) × (left ≡ front ++ entry e.place (e.taken + 1) ∷ [])
+    × (slice_get (members_in (slice_get reg.objects e.place)) e.taken ≡ Some m)
+
+abbrev pub with_stranger : Bool → Bool → List Way → List ℕ → List Way
+with_stranger true had found key = found
+with_stranger false true found key = found
+with_stranger false false found key = found ++ record { route = []; key = key } ∷ []
+
+abbrev pub no_marks : List Object → List Bool
+no_marks objects = replicate (length objects) false
+
+-- the member entries of groups, and the groups
+abbrev pub entries : List Object → ℕ
+entries [] = 0
+entries (o ∷ os) = (if is_group o.kind then length o.members else 0) + entries os
+
+abbrev pub groups : List Object → ℕ
+groups [] = 0
+groups (o ∷ os) = (if is_group o.kind then 1 else 0) + groups os
+
+abbrev pub CostsEntriesAndGroups : Type 0
+CostsEntriesAndGroups = (objects : List Object) → owed objects (no_marks objects) ≡ entries objects + groups objects

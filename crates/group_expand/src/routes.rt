@@ -1,0 +1,223 @@
+// Expansion: leaves, closed objects and unknown roots, each by its first path.
+ghost use Rattle.std.specs.Prelude.{◌≡◌, ◌<◌, ◌≤◌, ◌+◌, ◌*◌, ◌++◌, false, not, IfOk, OnOk, length, map, filter, option_copied};
+ghost use Rattle.std.specs.List.{list_any};
+ghost use Rattle.org_directory.specs.Register.{among, key_at, place_of, is_inside};
+ghost use Rattle.group_expand.specs.Routes.{leaves, unknown, shut_by, kept, closed_met, is_unknown, with_unknown, IsTable};
+ghost use Rattle.group_expand.specs.Places.{owed, no_marks, entries, groups};
+ghost use Rattle.group_expand.specs.Expansion.{opens, is_closed, expanded, leaf_of, closed_of, Gives};
+
+use crate::approval::needs_approval;
+use crate::outcome::{Closed, ExpandFault, Expansion, Leaf};
+use crate::walk::first_ways;
+use crate::way::Way;
+use mail_names::{Gate, Items, Key, NoMemory, Steps};
+use org_directory::Directory;
+use std::alloc::Global;
+use std::sync::ledger::Ledger;
+
+fn is_gate_of(key: &Key, gate: &Gate) -> bool
+    ensures { result ≡ opens key.now gate.now }
+{
+    match gate {
+        Gate::Object { key: k } => key.bytes() == k.bytes(),
+        Gate::Rule { .. } => false,
+    }
+}
+
+fn is_opened(key: &Key, opened: &[Gate]) -> bool
+    ensures { result ≡ list_any (opens key.now) opened.now }
+{
+    opened.iter().any(|gate| is_gate_of(key, gate))
+}
+
+/// Whether the object at a place needs approval and its gate isn't opened.
+fn is_shut(
+    alloc: Global,
+    directory: &Directory,
+    id: u32,
+    sender: Option<&Key>,
+    opened: &[Gate],
+) -> Result<bool, NoMemory>
+    requires { id < length directory.now.objects }
+    ensures { IfOk result (λ b. b ≡ is_closed directory.now (option_copied sender.entry) opened.now (key_at directory.now id)) }
+{
+    let needs = needs_approval(alloc, directory, id, sender)?;
+    if !needs {
+        return Ok(false);
+    }
+    let open = is_opened(&directory.object(id).key, opened);
+    Ok(!open)
+}
+
+/// For each place whether its object is closed.
+fn closed_table(
+    alloc: Global,
+    directory: &Directory,
+    sender: Option<&Key>,
+    opened: &[Gate],
+) -> Result<Vec<bool>, NoMemory>
+    ensures { IfOk result (λ t. IsTable directory.now (is_closed directory.now (option_copied sender.entry) opened.now) t.items) }
+{
+    directory.is_sound();
+    let mut table = Vec::new(alloc);
+    let count = directory.len() as u32;
+    for id in 0..count {
+        table.push(is_shut(alloc, directory, id, sender, opened)?)?;
+    }
+    Ok(table)
+}
+
+/// Whether the table says that the object of this key is closed.
+fn is_shut_by(directory: &Directory, table: &[bool], key: &Key) -> bool
+    requires { length table.now ≡ length directory.now.objects }
+    ensures { result ≡ shut_by directory.now table.now key.now }
+{
+    match directory.find(key) {
+        Some(place) => table[place as usize],
+        None => false,
+    }
+}
+
+/// Puts a way among the closed objects or among the leaves.
+fn put(
+    is_closed: bool,
+    way: Way,
+    leaves: &mut Items<Leaf>,
+    closed: &mut Items<Closed>,
+) -> Result<(), NoMemory>
+    ensures leaves { OnOk result (leaves.new ≡ leaves.old ++ map leaf_of (kept (not is_closed) way)) }
+    ensures closed { OnOk result (closed.new ≡ closed.old ++ map closed_of (kept is_closed way)) }
+{
+    let Way { route, key } = way;
+    if is_closed {
+        closed.push(Closed { key, route })?;
+        return Ok(());
+    }
+    leaves.push(Leaf { key, route })?;
+    Ok(())
+}
+
+/// The ways in two parts: those to leaves, and those to closed objects.
+fn parted(
+    alloc: Global,
+    directory: &Directory,
+    table: &[bool],
+    ways: Vec<Way>,
+) -> Result<(Items<Leaf>, Items<Closed>), NoMemory>
+    requires { length table.now ≡ length directory.now.objects }
+    ensures leaves { IfOk result (λ parts. parts.0 ≡ map leaf_of (filter (λ w. not (shut_by directory.now table.now w.key)) ways.items)) }
+    ensures closed { IfOk result (λ parts. parts.1 ≡ map closed_of (filter (λ w. shut_by directory.now table.now w.key) ways.items)) }
+{
+    let mut leaves = Items::new(alloc);
+    let mut closed = Items::new(alloc);
+    for way in ways {
+        let is_closed = is_shut_by(directory, table, &way.key);
+        put(is_closed, way, &mut leaves, &mut closed)?;
+    }
+    Ok((leaves, closed))
+}
+
+/// The leaves, and the closed objects that are met.
+fn met<L: Ledger>(
+    alloc: Global,
+    directory: &Directory,
+    roots: &[Key],
+    sender: Option<&Key>,
+    opened: &[Gate],
+    steps: &mut Steps<L>,
+) -> Result<(Items<Leaf>, Items<Closed>), NoMemory>
+    ensures leaves { IfOk result (λ parts. parts.0 ≡ map leaf_of (leaves directory.now (is_closed directory.now (option_copied sender.entry) opened.now) roots.now)) }
+    ensures closed { IfOk result (λ parts. parts.1 ≡ map closed_of (closed_met directory.now (is_closed directory.now (option_copied sender.entry) opened.now) roots.now)) }
+    ensures cost { steps.new ≤ steps.old + owed directory.now.objects (no_marks directory.now.objects) }
+{
+    let table = closed_table(alloc, directory, sender, opened)?;
+    let ways = first_ways(alloc, directory, table.as_slice(), roots, steps)?;
+    parted(alloc, directory, table.as_slice(), ways.into_vec())
+}
+
+/// How many leaves there are with every gate taken as opened.
+fn leaf_count<L: Ledger>(
+    alloc: Global,
+    directory: &Directory,
+    roots: &[Key],
+    steps: &mut Steps<L>,
+) -> Result<usize, NoMemory>
+    ensures count { IfOk result (λ n. n ≡ length (leaves directory.now (λ k. false) roots.now)) }
+    ensures cost { steps.new ≤ steps.old + owed directory.now.objects (no_marks directory.now.objects) }
+{
+    let table = vec![in alloc; false; directory.len()]?;
+    let ways = first_ways(alloc, directory, table.as_slice(), roots, steps)?;
+    Ok(ways.len())
+}
+
+fn has_key(keys: &[Key], key: &[u8]) -> bool
+    ensures { result ≡ among key.now keys.now }
+{
+    keys.iter().any(|k| key == k.bytes())
+}
+
+/// Adds a root that is unknown and isn't there.
+fn add_unknown(
+    alloc: Global,
+    directory: &Directory,
+    root: &Key,
+    keys: &mut Items<Key>,
+) -> Result<(), NoMemory>
+    ensures { OnOk result (keys.new ≡ with_unknown (is_unknown (place_of directory.now root.now) (is_inside directory.now root.now)) (among root.now keys.old) keys.old root.now) }
+{
+    match directory.find(root) {
+        Some(_) => Ok(()),
+        None => {
+            if !directory.is_inside(root) {
+                return Ok(());
+            }
+            if has_key(keys.as_slice(), root.bytes()) {
+                return Ok(());
+            }
+            keys.push(root.copy(alloc)?)?;
+            Ok(())
+        }
+    }
+}
+
+/// The roots inside that are no object, each once.
+fn unknown_roots(
+    alloc: Global,
+    directory: &Directory,
+    roots: &[Key],
+) -> Result<Items<Key>, NoMemory>
+    ensures { IfOk result (λ keys. keys ≡ unknown directory.now roots.now) }
+{
+    let mut keys = Items::new(alloc);
+    for root in roots {
+        add_unknown(alloc, directory, root, &mut keys)?;
+    }
+    Ok(keys)
+}
+
+/// What the roots expand to for a sender, with these gates opened: the leaves, the closed objects and the unknown roots,
+/// each once, by its first path. TooManyLeaves comes exactly where there are more than 2,000 leaves with every gate
+/// taken as opened. Each member that is read counts one step.
+#[tactic(auto, using(crate::proofs::Steps::costs_of))]
+pub fn expand<L: Ledger>(
+    alloc: Global,
+    directory: &Directory,
+    roots: &[Key],
+    sender: Option<&Key>,
+    opened: &[Gate],
+    steps: &mut Steps<L>,
+) -> Result<Expansion, ExpandFault>
+    ensures gives { Gives result (expanded directory.now roots.now (option_copied sender.entry) opened.now) }
+    ensures cost { steps.new ≤ steps.old + 2 * (entries directory.now.objects + groups directory.now.objects) }
+{
+    if leaf_count(alloc, directory, roots, steps)? > 2000 {
+        return Err(ExpandFault::TooManyLeaves);
+    }
+    let (leaves, closed) = met(alloc, directory, roots, sender, opened, steps)?;
+    let unknown = unknown_roots(alloc, directory, roots)?;
+    Ok(Expansion {
+        leaves,
+        closed,
+        unknown,
+    })
+}

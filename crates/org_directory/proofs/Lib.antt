@@ -1,0 +1,9 @@
+pub mod Chains
+pub mod Dropping
+pub mod Keeping
+pub mod Keys
+pub mod Mapped
+pub mod Places
+pub mod Rows
+pub mod Seeking
+pub mod Soundness

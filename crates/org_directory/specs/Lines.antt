@@ -1,0 +1,127 @@
+-- What a record of a directory file says, where it has the form.
+use Rattle.std.specs.Prelude.{◌≡◌, ℕ, ◌==◌, nat_lt, Bool, true, false, not, ◌&&◌, ◌||◌, if◌then◌else◌, List, [], ◌∷◌, ◌++◌, length, codes, unwrap_or, Option, Some, None, Result, Ok, Err}
+use Rattle.std.specs.List.{list_all}
+use Rattle.std.specs.Str.{bytes_eq}
+use Rattle.csv.specs.Records.{field_at}
+use Rattle.mail_names.specs.Key.{key_of, is_empty, is_key_byte, lower}
+use Rattle.mail_names.specs.declared.key.NameFault.{NameFault}
+use Rattle.org_directory.specs.Register.{among, is_group}
+use Rattle.org_directory.specs.declared.draft.Draft.{Draft}
+use Rattle.org_directory.specs.declared.draft.Line.{Line}
+use Rattle.org_directory.specs.declared.draft.Line.TheVariants as lines
+use Rattle.org_directory.specs.declared.object.Kind.{Kind}
+use Rattle.org_directory.specs.declared.object.Kind.TheVariants as kinds
+use Rattle.org_directory.specs.declared.object.Tell.{Tell}
+use Rattle.org_directory.specs.declared.object.Tell.TheVariants as tells
+
+-- the field at a place, or no bytes
+abbrev pub column : List (List ℕ) → ℕ → List ℕ
+column fields k = unwrap_or (field_at fields k) []
+
+abbrev pub if_ok : Result (List ℕ) NameFault → Option (List ℕ)
+if_ok (Ok key) = Some key
+if_ok (Err e) = None
+
+-- the key that a text reads to, if it reads to one
+abbrev pub key_in : List ℕ → Option (List ℕ)
+key_in text = if_ok (key_of text)
+
+-- the parts between single spaces, of which the first begins with these bytes
+abbrev pub parts_from : List ℕ → List ℕ → List (List ℕ)
+parts_from part [] = part ∷ []
+parts_from part (b ∷ bs) = if b == 32 then part ∷ parts_from [] bs else parts_from (part ++ b ∷ []) bs
+
+-- one more key, unless it is there
+abbrev pub one_more : List (List ℕ) → Option (List ℕ) → Option (List (List ℕ))
+one_more keys None = None
+one_more keys (Some key) = if among key keys then None else Some (keys ++ key ∷ [])
+
+-- the keys that the parts read to, behind these, none twice
+abbrev pub keys_from : Option (List (List ℕ)) → List (List ℕ) → Option (List (List ℕ))
+keys_from None parts = None
+keys_from (Some keys) [] = Some keys
+keys_from (Some keys) (part ∷ parts) = keys_from (one_more keys (key_in part)) parts
+
+-- A list is keys separated by single spaces, or empty, and names no key twice.
+abbrev pub keys_in : List ℕ → Option (List (List ℕ))
+keys_in text = if is_empty text then Some [] else keys_from (Some []) (parts_from [] text)
+
+abbrev pub kind_in : List ℕ → Option Kind
+kind_in text =
+    if bytes_eq text (codes "mailbox") then Some kinds.Mailbox
+    else (if bytes_eq text (codes "contact") then Some kinds.Contact
+    else (if bytes_eq text (codes "group") then Some kinds.Group else None))
+
+abbrev pub tell_in : List ℕ → Option Tell
+tell_in text =
+    if bytes_eq text (codes "always") then Some tells.Always
+    else (if bytes_eq text (codes "internal") then Some tells.Internal
+    else (if bytes_eq text (codes "never") then Some tells.Never else None))
+
+abbrev pub answer_in : List ℕ → Option Bool
+answer_in text = if bytes_eq text (codes "yes") then Some true else (if bytes_eq text (codes "no") then Some false else None)
+
+-- a byte of a key, but no @
+abbrev pub is_name_byte : ℕ → Bool
+is_name_byte b = is_key_byte b && not (b == 64)
+
+-- 1 to 252 such bytes
+abbrev pub is_domain_name : List ℕ → Bool
+is_domain_name text = not (is_empty text) && (not (nat_lt 252 (length text)) && list_all is_name_byte text)
+
+-- empty lists, `no` and `always`
+abbrev pub says_nothing : List (List ℕ) → Bool
+says_nothing fields =
+    is_empty (column fields 2) && (is_empty (column fields 3) && (bytes_eq (column fields 4) (codes "no")
+    && (is_empty (column fields 5) && (is_empty (column fields 6) && bytes_eq (column fields 7) (codes "always")))))
+
+abbrev pub domain_in : List (List ℕ) → Option Line
+domain_in fields =
+    if is_domain_name (column fields 0) && says_nothing fields then Some (lines.Domain (lower (column fields 0))) else None
+
+abbrev pub has_none : List (List ℕ) → Bool
+has_none [] = true
+has_none (k ∷ ks) = false
+
+-- A group alone has members, and moderators are at most 10.
+abbrev pub fits : Kind → List (List ℕ) → List (List ℕ) → Bool
+fits kind members moderators = (is_group kind || has_none members) && not (nat_lt 10 (length moderators))
+
+abbrev pub object_in : ℕ → Option (List ℕ) → Option Kind → Option (List (List ℕ)) → Option (List (List ℕ)) → Option Bool → Option (List (List ℕ)) → Option (List (List ℕ)) → Option Tell → Option Line
+object_in row (Some key) (Some kind) (Some members) (Some owners) (Some moderated) (Some moderators) (Some bypass) (Some tell) =
+    if fits kind members moderators
+    then Some (lines.Object (record {
+      row = row;
+      key = key;
+      kind = kind;
+      members = members;
+      owners = owners;
+      moderated = moderated;
+      moderators = moderators;
+      bypass = bypass;
+      tell = tell;
+    }))
+    else None
+object_in row a b c d e f g h = None
+
+abbrev pub object_line : ℕ → List (List ℕ) → Option Line
+object_line row fields =
+    object_in row (key_in (column fields 0)) (kind_in (column fields 1)) (keys_in (column fields 2)) (keys_in (column fields 3))
+    (answer_in (column fields 4)) (keys_in (column fields 5)) (keys_in (column fields 6)) (tell_in (column fields 7))
+
+-- what the record says, or None where it hasn't the form
+abbrev pub line_of : ℕ → List (List ℕ) → Option Line
+line_of row fields =
+    if length fields == 8 then (if bytes_eq (column fields 1) (codes "domain") then domain_in fields else object_line row fields) else None
+
+-- the first record
+abbrev pub is_header : List (List ℕ) → Bool
+is_header fields =
+    (length fields == 8) && (bytes_eq (column fields 0) (codes "key") && (bytes_eq (column fields 1) (codes "kind")
+    && (bytes_eq (column fields 2) (codes "members") && (bytes_eq (column fields 3) (codes "owners") && (bytes_eq (column fields 4) (codes "moderated")
+    && (bytes_eq (column fields 5) (codes "moderators") && (bytes_eq (column fields 6) (codes "bypass") && bytes_eq (column fields 7) (codes "tell"))))))))
+
+-- A key was added, or there was none to add.
+abbrev pub Adds : Bool → Option (List (List ℕ)) → List (List ℕ) → Type 0
+Adds true more keys = more ≡ Some keys
+Adds false more keys = more ≡ None

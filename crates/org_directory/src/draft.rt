@@ -1,0 +1,41 @@
+// Objects as their records name them, before each key has its place.
+use crate::names::Names;
+use crate::object::{Kind, Tell};
+use mail_names::{Bytes, Items, Key};
+
+/// An object whose lists still name keys.
+#[derive(Drop)]
+pub struct Draft {
+    /// The record that it stands in, from 1.
+    pub row: usize,
+    pub key: Key,
+    pub kind: Kind,
+    pub members: Names,
+    pub owners: Names,
+    pub moderated: bool,
+    pub moderators: Names,
+    pub bypass: Names,
+    pub tell: Tell,
+}
+
+/// What a record of the form says.
+#[derive(Drop)]
+pub enum Line {
+    Domain { name: Bytes },
+    Object { draft: Draft },
+}
+
+/// What the records so far say.
+#[derive(Drop)]
+pub struct Drafts {
+    /// How many records were read.
+    pub rows: usize,
+    /// The accepted domains.
+    pub domains: Names,
+    /// The objects' keys.
+    pub keys: Names,
+    /// The objects.
+    pub drafts: Items<Draft>,
+    /// How many member entries they have.
+    pub entries: usize,
+}

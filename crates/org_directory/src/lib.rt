@@ -1,0 +1,19 @@
+//! The directory of an organisation: its objects and accepted domains, how they are read, and who is in a group.
+#![tactic(auto)]
+
+mod directory;
+mod draft;
+mod fault;
+mod first_pass;
+mod laws;
+mod line;
+mod membership;
+mod names;
+mod object;
+mod read_csv;
+mod second_pass;
+
+pub use directory::Directory;
+pub use fault::DirectoryFault;
+pub use laws::membership_is_by_chains;
+pub use object::{Kind, Object, Tell};

@@ -1,0 +1,255 @@
+// What a record says, where it has the form.
+ghost use Rattle.std.specs.Prelude.{◌≡◌, ◌<◌, ◌==◌, ◌&&◌, not, IfOk, OnOk, Option, Some, None, false, length, slice_get};
+ghost use Rattle.std.specs.List.{list_all};
+ghost use Rattle.std.specs.Str.{bytes_eq};
+ghost use Rattle.csv.specs.Records.{fields_of};
+ghost use Rattle.mail_names.specs.Key.{is_key_byte};
+ghost use Rattle.org_directory.specs.Register.{among};
+ghost use Rattle.org_directory.specs.Lines.{answer_in, column, domain_in, fits, has_none, is_domain_name, is_header, is_name_byte, key_in, keys_in, kind_in, line_of, one_more, object_line, says_nothing, tell_in, Adds};
+
+use crate::draft::{Draft, Line};
+use crate::names::Names;
+use crate::object::{Kind, Tell};
+use csv::ByteRecord;
+use mail_names::{Key, NameFault, NoMemory, lowered};
+use std::alloc::Global;
+
+/// The field at a place, or no bytes.
+fn column(fields: &ByteRecord, place: usize) -> &[u8]
+    ensures { result.now ≡ column (fields_of fields.now) place }
+{
+    match fields.get(place) {
+        Some(field) => field,
+        None => b"",
+    }
+}
+
+/// The key that the text reads to, if it reads to one.
+fn read_key(alloc: Global, text: &[u8]) -> Result<Option<Key>, NoMemory>
+    ensures { IfOk result (λ key. key ≡ key_in text.now) }
+{
+    match Key::read(alloc, text) {
+        Ok(key) => Ok(Some(key)),
+        Err(NameFault::NoMemory) => Err(NoMemory),
+        Err(_) => Ok(None),
+    }
+}
+
+/// Adds the key that the part reads to, or answers false where there is none or it is there.
+fn add_part(alloc: Global, part: &[u8], keys: &mut Names) -> Result<bool, NoMemory>
+    ensures { IfOk result (λ added. Adds added (one_more keys.old (key_in part.now)) keys.new) }
+{
+    match read_key(alloc, part)? {
+        None => Ok(false),
+        Some(key) => {
+            if keys.has(key.bytes()) {
+                return Ok(false);
+            }
+            keys.push(alloc, key.bytes())?;
+            Ok(true)
+        }
+    }
+}
+
+/// The keys of a list.
+fn read_keys(alloc: Global, text: &[u8]) -> Result<Option<Names>, NoMemory>
+    ensures { IfOk result (λ keys. keys ≡ keys_in text.now) }
+{
+    let mut keys = Names::new(alloc);
+    if text.is_empty() {
+        return Ok(Some(keys));
+    }
+    let mut part = Vec::new(alloc);
+    for b in text {
+        if *b == b' ' {
+            let added = add_part(alloc, part.as_slice(), &mut keys)?;
+            if !added {
+                return Ok(None);
+            }
+            part.clear();
+        } else {
+            part.push(*b)?;
+        }
+    }
+    let added = add_part(alloc, part.as_slice(), &mut keys)?;
+    if !added {
+        return Ok(None);
+    }
+    Ok(Some(keys))
+}
+
+fn is(a: &[u8], b: &[u8]) -> bool
+    ensures { result ≡ bytes_eq a.now b.now }
+{
+    a == b
+}
+
+fn read_kind(text: &[u8]) -> Option<Kind>
+    ensures { result ≡ kind_in text.now }
+{
+    if is(text, b"mailbox") {
+        return Some(Kind::Mailbox);
+    }
+    if is(text, b"contact") {
+        return Some(Kind::Contact);
+    }
+    if is(text, b"group") {
+        return Some(Kind::Group);
+    }
+    None
+}
+
+fn read_tell(text: &[u8]) -> Option<Tell>
+    ensures { result ≡ tell_in text.now }
+{
+    if is(text, b"always") {
+        return Some(Tell::Always);
+    }
+    if is(text, b"internal") {
+        return Some(Tell::Internal);
+    }
+    if is(text, b"never") {
+        return Some(Tell::Never);
+    }
+    None
+}
+
+fn read_answer(text: &[u8]) -> Option<bool>
+    ensures { result ≡ answer_in text.now }
+{
+    if is(text, b"yes") {
+        return Some(true);
+    }
+    if is(text, b"no") {
+        return Some(false);
+    }
+    None
+}
+
+fn is_name_byte(b: u8) -> bool
+    ensures { result ≡ is_name_byte b }
+{
+    b.is_ascii_lowercase()
+        || b.is_ascii_uppercase()
+        || b.is_ascii_digit()
+        || matches!(
+            b,
+            b'!' | b'$' | b'&' | b'\'' | b'*' | b'+' | b'-' | b'=' | b'_' | b'~' | b'.'
+        )
+}
+
+fn are_name_bytes(text: &[u8]) -> bool
+    ensures { result ≡ list_all is_name_byte text.now }
+{
+    text.iter().all(|b| is_name_byte(*b))
+}
+
+fn is_domain_name(text: &[u8]) -> bool
+    ensures { result ≡ is_domain_name text.now }
+{
+    !text.is_empty() && text.len() <= 252 && are_name_bytes(text)
+}
+
+/// Whether the fields behind a domain's name say nothing.
+fn is_plain(fields: &ByteRecord) -> bool
+    ensures { result ≡ says_nothing (fields_of fields.now) }
+{
+    column(fields, 2).is_empty()
+        && column(fields, 3).is_empty()
+        && is(column(fields, 4), b"no")
+        && column(fields, 5).is_empty()
+        && column(fields, 6).is_empty()
+        && is(column(fields, 7), b"always")
+}
+
+fn read_domain(alloc: Global, fields: &ByteRecord) -> Result<Option<Line>, NoMemory>
+    ensures { IfOk result (λ line. line ≡ domain_in (fields_of fields.now)) }
+{
+    if !is_domain_name(column(fields, 0)) {
+        return Ok(None);
+    }
+    if !is_plain(fields) {
+        return Ok(None);
+    }
+    let name = lowered(alloc, column(fields, 0))?;
+    Ok(Some(Line::Domain { name }))
+}
+
+fn fits(kind: Kind, members: &Names, moderators: &Names) -> bool
+    ensures { result ≡ fits kind members.now moderators.now }
+{
+    (matches!(kind, Kind::Group) || members.len() == 0) && moderators.len() <= 10
+}
+
+fn read_object(alloc: Global, row: usize, fields: &ByteRecord) -> Result<Option<Line>, NoMemory>
+    ensures { IfOk result (λ line. line ≡ object_line row (fields_of fields.now)) }
+{
+    let Some(key) = read_key(alloc, column(fields, 0))? else {
+        return Ok(None);
+    };
+    let Some(kind) = read_kind(column(fields, 1)) else {
+        return Ok(None);
+    };
+    let Some(members) = read_keys(alloc, column(fields, 2))? else {
+        return Ok(None);
+    };
+    let Some(owners) = read_keys(alloc, column(fields, 3))? else {
+        return Ok(None);
+    };
+    let Some(moderated) = read_answer(column(fields, 4)) else {
+        return Ok(None);
+    };
+    let Some(moderators) = read_keys(alloc, column(fields, 5))? else {
+        return Ok(None);
+    };
+    let Some(bypass) = read_keys(alloc, column(fields, 6))? else {
+        return Ok(None);
+    };
+    let Some(tell) = read_tell(column(fields, 7)) else {
+        return Ok(None);
+    };
+    if !fits(kind, &members, &moderators) {
+        return Ok(None);
+    }
+    Ok(Some(Line::Object {
+        draft: Draft {
+            row,
+            key,
+            kind,
+            members,
+            owners,
+            moderated,
+            moderators,
+            bypass,
+            tell,
+        },
+    }))
+}
+
+/// What the record says, or None where it hasn't the form.
+pub fn read_line(alloc: Global, row: usize, fields: &ByteRecord) -> Result<Option<Line>, NoMemory>
+    ensures { IfOk result (λ line. line ≡ line_of row (fields_of fields.now)) }
+{
+    if fields.len() != 8 {
+        return Ok(None);
+    }
+    if is(column(fields, 1), b"domain") {
+        return read_domain(alloc, fields);
+    }
+    read_object(alloc, row, fields)
+}
+
+/// Whether the record is the one that a file begins with.
+pub fn is_header(fields: &ByteRecord) -> bool
+    ensures { result ≡ is_header (fields_of fields.now) }
+{
+    fields.len() == 8
+        && is(column(fields, 0), b"key")
+        && is(column(fields, 1), b"kind")
+        && is(column(fields, 2), b"members")
+        && is(column(fields, 3), b"owners")
+        && is(column(fields, 4), b"moderated")
+        && is(column(fields, 5), b"moderators")
+        && is(column(fields, 6), b"bypass")
+        && is(column(fields, 7), b"tell")
+}
