@@ -1,5 +1,6 @@
 pub mod Growth
 pub mod Listed
+pub mod Listing
 pub mod Room
 pub mod Steps
 pub mod Table

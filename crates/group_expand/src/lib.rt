@@ -4,10 +4,12 @@
 mod approval;
 pub mod laws;
 mod outcome;
+mod plain;
 mod routes;
 mod walk;
 mod way;
 
 pub use approval::needs_approval;
 pub use outcome::{Closed, ExpandFault, Expansion, Leaf};
+pub use plain::expand_plainly;
 pub use routes::expand;

@@ -50,7 +50,7 @@ fn is_shut(
 }
 
 /// For each place whether its object is closed.
-fn closed_table(
+pub fn closed_table(
     alloc: Global,
     directory: &Directory,
     sender: Option<&Key>,
@@ -68,7 +68,7 @@ fn closed_table(
 }
 
 /// Whether the table says that the object of this key is closed.
-fn is_shut_by(directory: &Directory, table: &[bool], key: &Key) -> bool
+pub fn is_shut_by(directory: &Directory, table: &[bool], key: &Key) -> bool
     requires { length table.now ≡ length directory.now.objects }
     ensures { result ≡ shut_by directory.now table.now key.now }
 {
@@ -98,7 +98,7 @@ fn put(
 }
 
 /// The ways in two parts: those to leaves, and those to closed objects.
-fn parted(
+pub fn parted(
     alloc: Global,
     directory: &Directory,
     table: &[bool],
@@ -150,7 +150,7 @@ fn leaf_count<L: Ledger>(
     Ok(ways.len())
 }
 
-fn has_key(keys: &[Key], key: &[u8]) -> bool
+pub fn has_key(keys: &[Key], key: &[u8]) -> bool
     ensures { result ≡ among key.now keys.now }
 {
     keys.iter().any(|k| key == k.bytes())
@@ -181,7 +181,7 @@ fn add_unknown(
 }
 
 /// The roots inside that are no object, each once.
-fn unknown_roots(
+pub fn unknown_roots(
     alloc: Global,
     directory: &Directory,
     roots: &[Key],

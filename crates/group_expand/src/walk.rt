@@ -191,7 +191,7 @@ fn has_way(found: &[Way], key: &[u8]) -> bool
     found.iter().any(|way| is_way_to(key, way))
 }
 
-fn is_found(found: &[Way], key: &[u8]) -> bool
+pub fn is_found(found: &[Way], key: &[u8]) -> bool
     ensures { result ≡ among key.now (map (λ w. w.key) found.now) }
 {
     has_way(found, key)

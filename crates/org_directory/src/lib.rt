@@ -5,7 +5,7 @@ mod directory;
 mod draft;
 mod fault;
 mod first_pass;
-mod laws;
+pub mod laws;
 mod line;
 mod membership;
 mod names;
@@ -15,5 +15,7 @@ mod second_pass;
 
 pub use directory::Directory;
 pub use fault::DirectoryFault;
-pub use laws::membership_is_by_chains;
 pub use object::{Kind, Object, Tell};
+
+#[cfg(test)]
+mod tests;
