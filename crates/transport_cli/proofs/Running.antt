@@ -37,6 +37,7 @@ finishes_within h then now f0 f1 f2 image statuses.SourceFault first t = t
 finishes_within h then now f0 f1 f2 image statuses.SinkFault first t = t
 finishes_within h then now f0 f1 f2 image statuses.Cut first t = t
 finishes_within h then now f0 f1 f2 image statuses.TooLong first t = t
+finishes_within h then now f0 f1 f2 image statuses.BadOrganisation first t = t
 
 pub ends_within : (end : SessionEnd) (h : List Entry) (then now : ℕ → Option ℕ) (f0 f1 f2 : ℕ) (image : Image) (status : Status) → f0 ≤ f1 → Ends end h then now f1 f2 image status → Ends end h then now f0 f2 image status
 ends_within ends.Quit h then now f0 f1 f2 image status first t = finishes_within h then now f0 f1 f2 image status first t

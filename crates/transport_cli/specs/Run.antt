@@ -1,5 +1,6 @@
--- What the command `session` does.
+-- What the commands do.
 use Rattle.std.specs.Prelude.{◌≡◌, ◌⊎◌, ℕ, Bool, false, List, [], ◌∷◌, ◌++◌, Option, codes, bytes_eq}
+use Rattle.std.specs.Io.KnownBytes.{Consumes}
 use Rattle.port_io.specs.Causes.{RoseBy}
 use Rattle.port_io.specs.Told.{Gave}
 use Rattle.mail_plan.specs.declared.entry.Entry.{Entry}
@@ -13,6 +14,9 @@ use Rattle.queue_store.specs.Calls.{after_entries, entries_categorise, entries_t
 use Rattle.smtp_front.specs.declared.session_end.SessionEnd.{SessionEnd}
 use Rattle.smtp_front.specs.declared.session_end.SessionEnd.TheVariants as ends
 use Rattle.smtp_front.specs.Sessions.{Spoke}
+use Rattle.org_check.specs.declared.checking.CheckEnd.{CheckEnd}
+use Rattle.org_check.specs.declared.checking.CheckEnd.TheVariants as checks
+use Rattle.org_check.specs.Check.{Checks}
 use Rattle.transport_cli.specs.declared.status.Status.{Status}
 use Rattle.transport_cli.specs.declared.status.Status.TheVariants as statuses
 use Rattle.transport_cli.specs.Answers.{HistoryGives}
@@ -106,6 +110,28 @@ abbrev pub is_session : List (List ℕ) → Bool
 is_session [] = false
 is_session (word ∷ []) = bytes_eq word (codes "session")
 is_session (word ∷ other ∷ words) = false
+
+abbrev pub is_check : List (List ℕ) → Bool
+is_check [] = false
+is_check (word ∷ []) = bytes_eq word (codes "check")
+is_check (word ∷ other ∷ words) = false
+
+-- the status of a check that ended so
+abbrev pub status_of_check : CheckEnd → Status
+status_of_check checks.Passed = statuses.Done
+status_of_check checks.Refused = statuses.BadOrganisation
+status_of_check checks.NoMemory = statuses.NoMemory
+status_of_check checks.SourceFault = statuses.SourceFault
+status_of_check checks.SinkFault = statuses.SinkFault
+status_of_check checks.TooLong = statuses.TooLong
+
+-- A whole run of the command `check`: of the text that it took of the source, it said what its definition says.
+pub record Checked (before left taken now : Option (List ℕ)) (status : Status) : Type 0 where
+  pub end : CheckEnd
+  pub text : List ℕ
+  pub took : Consumes before left text
+  pub checks : Checks text left taken now end
+  pub status_is : status ≡ status_of_check end
 
 -- the usage line
 abbrev pub usage_text : List ℕ

@@ -1,7 +1,8 @@
 // How a call of the program ends.
 ghost use Rattle.std.specs.Prelude.{◌≡◌};
-ghost use Rattle.transport_cli.specs.Run.{refused, status_of};
+ghost use Rattle.transport_cli.specs.Run.{refused, status_of, status_of_check};
 
+use org_check::CheckEnd;
 use queue_store::HubFault;
 use smtp_front::SessionEnd;
 
@@ -23,6 +24,8 @@ pub enum Status {
     NotALog,
     /// The input ended inside a line or a content.
     Cut,
+    /// The text that was checked is no organisation's.
+    BadOrganisation,
     /// The log has no room.
     LogFull,
     /// The input was too long.
@@ -41,6 +44,7 @@ impl Status {
             Status::SinkFault => 5,
             Status::NotALog => 6,
             Status::Cut => 7,
+            Status::BadOrganisation => 9,
             Status::LogFull => 10,
             Status::TooLong => 11,
         }
@@ -86,5 +90,24 @@ pub fn ended(end: SessionEnd) -> Status
         SessionEnd::LogFull => Status::LogFull,
         SessionEnd::NotALog { .. } => Status::NotALog,
         SessionEnd::TooLong => Status::TooLong,
+    }
+}
+
+/// The status of a check that ended so.
+pub fn checked(end: CheckEnd) -> Status
+    ensures value { result ≡ status_of_check end }
+    ensures disk { result ≡ Status.DiskFault → ⊥ }
+    ensures log { result ≡ Status.NotALog → ⊥ }
+    ensures usage { result ≡ Status.Usage → ⊥ }
+    ensures source { result ≡ Status.SourceFault → end ≡ CheckEnd.SourceFault }
+    ensures sink { result ≡ Status.SinkFault → end ≡ CheckEnd.SinkFault }
+{
+    match end {
+        CheckEnd::Passed => Status::Done,
+        CheckEnd::Refused => Status::BadOrganisation,
+        CheckEnd::NoMemory => Status::NoMemory,
+        CheckEnd::SourceFault => Status::SourceFault,
+        CheckEnd::SinkFault => Status::SinkFault,
+        CheckEnd::TooLong => Status::TooLong,
     }
 }

@@ -184,6 +184,44 @@ fn a_full_queue(rt: HostRuntime) -> Result<(), Fail> {
     Ok(())
 }
 
+// A check prints its verdict, and leaves the plant as it was.
+#[test]
+fn an_organisation_is_checked(rt: HostRuntime) -> Result<(), Fail> {
+    let alloc = rt.alloc();
+    let mut plant = MemoryPlant::new(alloc, Bytes::new(alloc));
+    let header = b"key,kind,members,owners,moderated,moderators,bypass,tell\n".as_slice();
+    for (behind, output, status) in [
+        (b"".as_slice(), b"ok\n".as_slice(), Status::Done),
+        (
+            b"staff@example.com,group,nobody@example.com,,no,,,always\n",
+            b"directory fault 3 at 2\n",
+            Status::BadOrganisation,
+        ),
+        (
+            b"%%\n[[rule]]\n",
+            b"rules not built\n",
+            Status::BadOrganisation,
+        ),
+    ] {
+        let mut input = Bytes::of(alloc, header)?;
+        input.add(behind)?;
+        let words = ["check"].as_slice();
+        check(
+            &rt,
+            alloc,
+            &mut plant,
+            words,
+            input.as_slice(),
+            9,
+            status,
+            output,
+        )?;
+    }
+    let mut bytes = [0u8; 16];
+    assert_eq!(rt; plant.read(0, &mut bytes)?, 0);
+    Ok(())
+}
+
 #[test]
 fn other_ends(rt: HostRuntime) -> Result<(), Fail> {
     let alloc = rt.alloc();

@@ -9,10 +9,11 @@ ghost use Rattle.queue_store.specs.Stands.{Stands};
 ghost use Rattle.queue_store.specs.Ready.{IsReady};
 ghost use Rattle.smtp_front.specs.Sessions.{Spoke};
 ghost use Rattle.transport_cli.specs.Answers.{HistoryGives};
-ghost use Rattle.transport_cli.specs.Run.{Ends, Finishes, Ran, is_session, usage_text};
+ghost use Rattle.transport_cli.specs.Run.{Checked, Ends, Finishes, Ran, is_check, is_session, usage_text};
 
-use crate::status::{Status, ended, refused};
+use crate::status::{Status, checked, ended, refused};
 use hub_core::Limits;
+use org_check::check;
 use plant_dev::Plant;
 use port_io::{Clock, Sink, Source, write_all_to};
 use queue_store::{Hub, LocalOffice};
@@ -144,10 +145,33 @@ pub fn is_session(words: &[&str]) -> bool
     }
 }
 
+/// Whether the words are the command `check`.
+pub fn is_check(words: &[&str]) -> bool
+    ensures { result ≡ is_check (map (λ word. word.now) words.now) }
+{
+    match words {
+        [word] => *word == "check",
+        _ => false,
+    }
+}
+
+// Checks the organisation that the source has.
+fn run_check<S: Source, K: Sink>(alloc: Global, source: &mut S, sink: &mut K) -> Status
+    ensures checked { Checked (S.left source.old) (S.left source.new) (K.taken sink.old) (K.taken sink.new) result }
+    ensures disk { result ≡ Status.DiskFault → ⊥ }
+    ensures log { result ≡ Status.NotALog → ⊥ }
+    ensures source { result ≡ Status.SourceFault → Rose (S.faults source.old) (S.faults source.new) }
+    ensures sink { result ≡ Status.SinkFault → Rose (K.faults sink.old) (K.faults sink.new) }
+    ensures usage { result ≡ Status.Usage → ⊥ }
+{
+    checked(check(alloc, source, sink))
+}
+
 /// Runs a command. The words are without the program's name.
 ///
 /// `session` opens the hub, runs one SMTP session from source to sink, and then categorises all that was accepted and
-/// makes one turn. Other words are no command yet, and are answered with the usage line.
+/// makes one turn. `check` reads an organisation from the source and prints `ok` or its first fault; it touches no plant.
+/// Other words are no command yet, and are answered with the usage line.
 pub fn transport<S: Source, K: Sink, P: Plant, C: Clock>(
     alloc: Global,
     words: &[&str],
@@ -165,9 +189,13 @@ pub fn transport<S: Source, K: Sink, P: Plant, C: Clock>(
     // Nor is a log told as none where the plant stands for a history.
     ensures log { (h : List Entry) → IsTrue (P.state plant.old).honest → Stands usual (P.state plant.old).image h →
         (Rose (P.state plant.old).disk_faults (P.state plant.new).disk_faults → ⊥) → result ≡ Status.NotALog → ⊥ }
-    ensures usage { result ≡ Status.Usage → is_session (map (λ word. word.now) words.now) ≡ false }
+    // A check says what its definition says.
+    ensures check { is_check (map (λ word. word.now) words.now) ≡ true →
+        Checked (S.left source.old) (S.left source.new) (K.taken sink.old) (K.taken sink.new) result }
+    ensures untouched { is_session (map (λ word. word.now) words.now) ≡ false → plant.new ≡ plant.old }
+    ensures usage { result ≡ Status.Usage → (is_session (map (λ word. word.now) words.now) ≡ false) × (is_check (map (λ word. word.now) words.now) ≡ false) }
     ensures usage_text { result ≡ Status.Usage → Appends (K.taken sink.old) (K.taken sink.new) usage_text }
-    ensures other { is_session (map (λ word. word.now) words.now) ≡ false → (result ≡ Status.Usage) ⊎ (result ≡ Status.SinkFault) }
+    ensures other { is_session (map (λ word. word.now) words.now) ≡ false → is_check (map (λ word. word.now) words.now) ≡ false → (result ≡ Status.Usage) ⊎ (result ≡ Status.SinkFault) }
 
     // A fault of an end is answered only where its count rose.
     ensures disk { result ≡ Status.DiskFault → Rose (P.state plant.old).disk_faults (P.state plant.new).disk_faults }
@@ -176,6 +204,9 @@ pub fn transport<S: Source, K: Sink, P: Plant, C: Clock>(
 {
     if is_session(words) {
         return run_session(alloc, source, sink, plant, clock);
+    }
+    if is_check(words) {
+        return run_check(alloc, source, sink);
     }
     match write_all_to(sink, USAGE) {
         Ok(()) => Status::Usage,
