@@ -75,8 +75,20 @@ opened() {
   row "$1" $((end - begin)) 0
 }
 
+# synced NAME COUNT: so many writes of 512 octets, each synced
+synced() {
+  dd if=/dev/zero of=input bs=512 count="$2" status=none
+  local begin end
+  begin=$(date +%s%N)
+  dd if=input of=copy bs=512 oflag=dsync status=none
+  end=$(date +%s%N)
+  row "$1" $((end - begin)) "$2"
+}
+
 printf '%-40s %8s %10s %12s %14s\n' load messages seconds messages/s octets/s
+# A message to one recipient needs eight syncs: two for each of its three entries, and two for its item.
 timed "messages of 1 KiB" small "$messages"
+synced "syncs of this disk" $((8 * messages))
 timed "a message of 1 MiB" large 1
 timed "a message of 1 MiB, 10,000 fields" fields 1
 copied "a copy of the same file, synced" fields

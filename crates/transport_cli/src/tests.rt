@@ -155,6 +155,33 @@ fn a_later_run_knows_what_an_earlier_one_accepted(rt: HostRuntime) -> Result<(),
     Ok(())
 }
 
+// A message without a Message-Id gets one of the hub's, and sent again it is another submission.
+#[test]
+fn a_message_without_an_id(rt: HostRuntime) -> Result<(), Fail> {
+    let alloc = rt.alloc();
+    let input =
+        b"HELO c\r\nMAIL FROM:<>\r\nRCPT TO:<bob@example.com>\r\nDATA\r\na: b\r\n\r\nx\r\n.\r\nMAIL FROM:<>\r\nRCPT TO:<bob@example.com>\r\nDATA\r\na: b\r\n\r\nx\r\n.\r\n";
+    let output =
+        b"220 hub.invalid mail hub ready\r\n250 hub.invalid\r\n250 OK\r\n250 OK\r\n354 End data with a dot line\r\n250 Accepted 1\r\n250 OK\r\n250 OK\r\n354 End data with a dot line\r\n250 Accepted 2\r\n";
+    let mut plant = MemoryPlant::new(alloc, Bytes::new(alloc));
+    let words = ["session"].as_slice();
+    check(
+        &rt,
+        alloc,
+        &mut plant,
+        words,
+        input.as_slice(),
+        7,
+        Status::Done,
+        output.as_slice(),
+    )?;
+    let first = b"a: b\r\nMessage-Id: <1@hub.invalid>\r\n\r\nx\r\n";
+    check_item(&rt, alloc, &mut plant, b"bob@example.com", 1, 0, first)?;
+    let second = b"a: b\r\nMessage-Id: <2@hub.invalid>\r\n\r\nx\r\n";
+    check_item(&rt, alloc, &mut plant, b"bob@example.com", 2, 0, second)?;
+    Ok(())
+}
+
 // A hub that takes one submission answers the second with its numbers, and the first again with its own.
 #[test]
 fn a_full_queue(rt: HostRuntime) -> Result<(), Fail> {
