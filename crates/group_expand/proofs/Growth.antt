@@ -1,11 +1,11 @@
 -- Growth: with more gates opened, what was met is met.
-use Rattle.std.specs.Prelude.{◌≡◌, ◌+◌, ℕ, suc, zero, Bool, true, false, not, if◌then◌else◌, ◌||◌, ◌&&◌, List, [], ◌∷◌, ◌++◌, ◌⊎◌, length, map, filter, refl}
-use Rattle.std.proofs.Common.{sym, ◌∙◌, ap, subst, inl, inr, arith, rules}
+use Rattle.std.specs.Prelude.{◌≡◌, ◌+◌, ℕ, suc, zero, Bool, true, false, not, if◌then◌else◌, ◌||◌, List, [], ◌∷◌, ◌++◌, ◌⊎◌, length, filter, refl}
+use Rattle.std.proofs.Common.{sym, ◌∙◌, ap, subst, inl, inr, arith}
 use Rattle.std.proofs.lemmas.Grind.{common_steps}
-use Rattle.std.specs.List.{list_any, flat_map}
+use Rattle.std.specs.List.{flat_map}
 use Rattle.std.specs.Str.{bytes_eq}
 use Rattle.org_directory.specs.Register.{among, Register, is_inside, object_of, members_of}
-use Rattle.group_expand.specs.Ways.{Web, ways, here, unless, fresh, first_of_each}
+use Rattle.group_expand.specs.Ways.{Web, ways, here, unless, fresh}
 use Rattle.group_expand.specs.declared.way.Way.{Way}
 use Rattle.org_directory.proofs.Keys.{same_key, key_is_itself}
 use Rattle.group_expand.proofs.Words.{AllHad, all_flat, fresh-agree}

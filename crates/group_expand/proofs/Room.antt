@@ -1,20 +1,15 @@
 -- A path without a repeated key has no more keys than there are objects, and one.
-use Rattle.std.specs.Prelude.{◌≡◌, ◌<◌, ◌≤◌, ◌+◌, ℕ, zero, suc, Bool, true, false, if◌then◌else◌, ◌||◌, List, [], ◌∷◌, ◌++◌, ◌⊎◌, length, map, Option, Some, None, position, unwrap_or, ◌↔◌, refl}
-use Rattle.std.proofs.Common.{sym, ◌∙◌, ap, subst, inl, inr, arith, rules, eqb, length-append}
-use Rattle.std.proofs.lemmas.Grind.{common_steps}
+use Rattle.std.specs.Prelude.{◌≡◌, ◌<◌, ◌≤◌, ◌+◌, ℕ, Bool, true, false, if◌then◌else◌, List, [], ◌∷◌, ◌++◌, length, map, Option, Some, None, unwrap_or, ◌↔◌, refl}
+use Rattle.std.proofs.Common.{sym, ◌∙◌, ap, subst, arith, eqb, length-append}
 use Rattle.std.proofs.lemmas.List.{length-map, map-append}
 use Rattle.std.proofs.lemmas.Map.Steps.{length-le_from_distinct_below}
 use Rattle.std.proofs.lemmas.Map.Keys.{IsDistinct-push}
-use Rattle.std.proofs.lemmas.List.Folds.{list_any-append}
 use Rattle.std.specs.List.{list_any, IsDistinct}
-use Rattle.std.specs.Str.{bytes_eq}
 use Rattle.std.specs.Cmp.{nat_eq_equiv}
-use Rattle.org_directory.specs.Register.{among, Register, key_at, keys_at, members_in, place_of, object_of, object_at, members_of}
-use Rattle.group_expand.specs.Ways.{Web, ways}
-use Rattle.group_expand.specs.declared.way.Way.{Way}
-use Rattle.org_directory.proofs.Keys.{key_is_itself}
+use Rattle.org_directory.specs.Register.{among, Register, keys_at, members_in, place_of, object_at, members_of}
+use Rattle.group_expand.specs.Ways.{ways}
 use Rattle.group_expand.specs.Routes.{web_of}
-use Rattle.group_expand.specs.Paths.{Has, IsChain, NoRepeat, way_through, ListsAll, ListsEvery}
+use Rattle.group_expand.specs.Paths.{Has, IsChain, NoRepeat, way_through, ListsEvery}
 use Rattle.org_directory.proofs.Chains.{number, Objects, number-new, numbers-below}
 use Rattle.group_expand.proofs.Listed.{lists-all}
 

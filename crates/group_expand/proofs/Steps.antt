@@ -1,9 +1,8 @@
 -- The steps of the walk by places are steps of the walk on keys.
-use Rattle.std.specs.Prelude.{replicate, ◌≡◌, ◌<◌, ◌≤◌, ◌+◌, ◌-◌, ℕ, zero, suc, Bool, true, false, not, ◌||◌, if◌then◌else◌, List, [], ◌∷◌, ◌++◌, length, map, reverse, drop, Option, Some, None, slice_get, get_or, slice_set, sum_by, All, position, refl}
-use Rattle.std.proofs.Common.{sym, ◌∙◌, ap, subst, arith, append_assoc, rules, length-append, set}
+use Rattle.std.specs.Prelude.{replicate, ◌≡◌, ◌<◌, ◌≤◌, ◌+◌, ℕ, zero, suc, Bool, true, false, not, ◌||◌, if◌then◌else◌, List, [], ◌∷◌, ◌++◌, length, map, reverse, drop, Option, Some, None, slice_get, get_or, sum_by, All, refl}
+use Rattle.std.proofs.Common.{sym, ◌∙◌, ap, subst, arith, rules, length-append, set}
 use Rattle.std.proofs.lemmas.Grind.{common_steps}
 use Rattle.std.proofs.lemmas.List.{length-replicate, append-nil, length-map, reverse-reverse, reverse-append, get_or-set_same, get_or-set_other, map-append, length-set}
-use Rattle.std.proofs.lemmas.List.Quantifiers.{position-Some}
 use Rattle.std.proofs.lemmas.List.Folds.{list_any-append}
 use Rattle.std.specs.List.{list_any}
 use Rattle.std.proofs.lemmas.List.Elements.{All-append, All-head, All-tail, All-push, All-pop}
@@ -11,11 +10,10 @@ use Rattle.std.proofs.lemmas.Option.{slice_get_within}
 use Rattle.std.proofs.lemmas.List.Sums.{sum_by-set, sum_by-append}
 use Rattle.std.specs.Str.{bytes_eq}
 use Rattle.org_directory.proofs.Places.{object-there, place_of-key_at, below-place, object_of-at, members-at, found-below}
-use Rattle.org_directory.specs.Register.{Register, IsSound, InRange, key_at, keys_at, members_in, is_group, is_inside, place_of, object_of, object_at, members_of, among}
-use Rattle.group_expand.specs.Ways.{Web, fresh, first_of_each, here}
+use Rattle.org_directory.specs.Register.{Register, IsSound, key_at, keys_at, members_in, is_group, is_inside, place_of, object_of, object_at, members_of, among}
+use Rattle.group_expand.specs.Ways.{Web, first_of_each, here}
 use Rattle.group_expand.specs.Marked.{Frame, frame, Holding, Facing, with_key, trail_of}
 use Rattle.org_directory.specs.declared.object.Object.{Object}
-use Rattle.org_directory.specs.declared.object.Kind.{Kind}
 use Rattle.group_expand.specs.declared.way.Way.{Way}
 use Rattle.org_directory.proofs.Keys.{same_key, key_is_itself}
 use Rattle.group_expand.proofs.Walking.{holding-pop, holding-end, holding-nothing, holding-start, facing-member, facing-root, facing-skip, facing-enter}

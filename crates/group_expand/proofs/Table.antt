@@ -1,9 +1,8 @@
 -- The table of closed objects, and the two parts of the ways.
-use Rattle.std.specs.Prelude.{◌≡◌, ◌<◌, ◌≤◌, ◌+◌, ℕ, zero, suc, Bool, true, false, not, ◌&&◌, ◌||◌, List, [], ◌∷◌, ◌++◌, ◌⊎◌, length, drop, get_or, filter, Option, Some, None, refl, replicate, map}
-use Rattle.std.proofs.Common.{sym, ◌∙◌, ap, subst, inl, inr, arith, rules, length-append, append_assoc}
-use Rattle.std.proofs.lemmas.Grind.{common_steps}
-use Rattle.org_directory.specs.Register.{Register, IsSound, key_at, place_of, among, is_inside, object_at}
-use Rattle.std.specs.List.{list_any, flat_map}
+use Rattle.std.specs.Prelude.{◌≡◌, ◌<◌, ◌+◌, ℕ, zero, suc, Bool, true, false, not, ◌&&◌, ◌||◌, List, [], ◌∷◌, ◌++◌, ◌⊎◌, length, get_or, filter, Option, Some, None, refl, map}
+use Rattle.std.proofs.Common.{sym, ◌∙◌, ap, subst, inl, inr, arith, length-append, append_assoc}
+use Rattle.org_directory.specs.Register.{Register, place_of, among, is_inside, object_at}
+use Rattle.std.specs.List.{list_any}
 use Rattle.std.specs.Str.{bytes_eq}
 use Rattle.std.proofs.lemmas.List.Folds.{list_any-append}
 use Rattle.std.proofs.lemmas.List.{length-replicate, map-append}
@@ -15,8 +14,8 @@ use Rattle.mail_names.specs.declared.gate.Gate.{Gate}
 use Rattle.group_expand.specs.Places.{no_marks}
 use Rattle.group_expand.proofs.Growth.{first-filter}
 use Rattle.group_expand.specs.declared.way.Way.{Way}
-use Rattle.group_expand.specs.Routes.{shut_by, shut_at, kept, IsTable, all_ways, routes, leaves, closed_met, keys_of, is_unknown, with_unknown, unknown_ways, unknown}
-use Rattle.org_directory.proofs.Places.{below-place, found-below}
+use Rattle.group_expand.specs.Routes.{shut_by, shut_at, kept, IsTable, all_ways, leaves, closed_met, keys_of, is_unknown, with_unknown, unknown_ways}
+use Rattle.org_directory.proofs.Places.{found-below}
 use Rattle.group_expand.proofs.Steps.{all-false}
 
 get-front : (xs ys : List Bool) (p : ℕ) → p < length xs → get_or (xs ++ ys) p false ≡ get_or xs p false

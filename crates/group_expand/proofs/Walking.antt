@@ -1,16 +1,16 @@
 -- The marked walk: what is left out was had before, so the first way found is the first of all.
-use Rattle.std.specs.Prelude.{◌≡◌, ◌+◌, ◌-◌, ◌<◌, ◌≤◌, ℕ, suc, zero, Bool, true, false, if◌then◌else◌, ◌||◌, List, [], ◌∷◌, ◌++◌, ◌⊎◌, length, refl}
-use Rattle.std.proofs.Common.{sym, ◌∙◌, ap, subst, inl, inr, arith, append_assoc, rules, length-append}
+use Rattle.std.specs.Prelude.{◌≡◌, ◌+◌, ◌-◌, ◌<◌, ℕ, suc, zero, Bool, true, false, ◌||◌, List, [], ◌∷◌, ◌++◌, ◌⊎◌, length, refl}
+use Rattle.std.proofs.Common.{sym, ◌∙◌, ap, subst, inl, inr, arith, append_assoc, length-append}
 use Rattle.std.proofs.lemmas.Grind.{common_steps}
-use Rattle.std.specs.List.{list_any, flat_map}
+use Rattle.std.specs.List.{flat_map}
 use Rattle.std.specs.Str.{bytes_eq}
 use Rattle.std.proofs.lemmas.List.Folds.{list_any-append}
 use Rattle.group_expand.specs.declared.way.Way.{Way}
 use Rattle.org_directory.specs.Register.{among}
-use Rattle.group_expand.specs.Ways.{Web, here, unless, ways, fresh, first_of_each}
+use Rattle.group_expand.specs.Ways.{Web, here, unless, ways, fresh}
 use Rattle.group_expand.specs.Marked.{Sealed, Frame, frame, trail_of, pending, Begun, Walks, Holding, Facing, with_key}
 use Rattle.org_directory.proofs.Keys.{same_key, key_is_itself}
-use Rattle.group_expand.proofs.Words.{AllHad, AllHad-append, fresh-skip, Agree, Agree-more, fresh-agree, in_front, behind, in_parts, all_flat}
+use Rattle.group_expand.proofs.Words.{AllHad, AllHad-append, fresh-skip, Agree, fresh-agree, in_front, in_parts, all_flat}
 
 pub here-had : (had : List ℕ → Bool) (b : Bool) (trail : List (List ℕ)) (k : List ℕ) → had k ≡ true → AllHad had (here b trail k)
 here-had had true trail k h = (h, tt)

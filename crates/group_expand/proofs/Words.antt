@@ -1,14 +1,14 @@
 -- Facts on keys, on the first of each end, and on what was had.
-use Rattle.std.specs.Prelude.{◌≡◌, ℕ, suc, zero, Bool, true, false, if◌then◌else◌, ◌||◌, List, [], ◌∷◌, ◌++◌, ◌⊎◌, refl}
-use Rattle.std.proofs.Common.{sym, ◌∙◌, ap, subst, inl, inr, arith, append_assoc, rules}
+use Rattle.std.specs.Prelude.{◌≡◌, ℕ, Bool, true, ◌||◌, List, [], ◌∷◌, ◌++◌, ◌⊎◌, refl}
+use Rattle.std.proofs.Common.{ap, arith}
 use Rattle.std.proofs.lemmas.Grind.{common_steps}
-use Rattle.std.specs.List.{list_any, flat_map}
+use Rattle.std.specs.List.{flat_map}
 use Rattle.std.specs.Str.{bytes_eq}
 use Rattle.org_directory.proofs.Keys.{key_is_itself}
 use Rattle.std.proofs.lemmas.List.Folds.{list_any-append}
 use Rattle.group_expand.specs.declared.way.Way.{Way}
 use Rattle.org_directory.specs.Register.{among}
-use Rattle.group_expand.specs.Ways.{Web, here, unless, ways, fresh, first_of_each}
+use Rattle.group_expand.specs.Ways.{fresh}
 
 -- each way ends at a key that was had
 abbrev pub AllHad : (List ℕ → Bool) → List Way → Type 0

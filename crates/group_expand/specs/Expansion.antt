@@ -1,8 +1,8 @@
 -- What expanding gives.
-use Rattle.std.specs.Prelude.{◌≡◌, ◌&&◌, ℕ, Bool, true, false, not, if◌then◌else◌, List, [], ◌∷◌, ◌++◌, map, length, Option, Result, Ok, Err}
+use Rattle.std.specs.Prelude.{◌≡◌, ◌&&◌, ℕ, Bool, false, not, if◌then◌else◌, List, ◌++◌, map, Option, Result, Ok, Err}
 use Rattle.std.specs.Str.{bytes_eq}
 use Rattle.std.specs.List.{list_any}
-use Rattle.org_directory.specs.Register.{Register, key_at}
+use Rattle.org_directory.specs.Register.{Register}
 use Rattle.org_directory.specs.Membership.{needs_approval}
 use Rattle.group_expand.specs.Routes.{Opens, leaves, closed_met, unknown, too_many}
 use Rattle.mail_names.specs.declared.gate.Gate.{Gate}

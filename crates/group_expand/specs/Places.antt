@@ -1,5 +1,5 @@
 -- The marked walk by places: marks, a stack, and the ways found.
-use Rattle.std.specs.Prelude.{replicate, ◌≡◌, ◌<◌, ◌≤◌, ◌+◌, ◌-◌, ℕ, Bool, true, false, not, ◌||◌, if◌then◌else◌, List, [], ◌∷◌, ◌++◌, length, map, reverse, drop, Option, Some, None, slice_get, get_or, slice_set, sum_by, All}
+use Rattle.std.specs.Prelude.{replicate, ◌≡◌, ◌<◌, ◌≤◌, ◌+◌, ◌-◌, ℕ, Bool, true, false, not, ◌||◌, if◌then◌else◌, List, [], ◌∷◌, ◌++◌, length, map, reverse, drop, Option, Some, None, slice_get, get_or, sum_by, All}
 use Rattle.org_directory.specs.Register.{Register, IsSound, key_at, keys_at, members_in, is_group, place_of, among}
 use Rattle.group_expand.specs.Marked.{Frame, frame, Holding, Facing}
 use Rattle.org_directory.specs.declared.object.Object.{Object}

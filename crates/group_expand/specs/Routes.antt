@@ -1,10 +1,8 @@
 -- Which keys are ends, and the routes to them.
-use Rattle.std.specs.Prelude.{◌≡◌, ◌<◌, ◌+◌, ℕ, Bool, true, false, not, nat_lt, if◌then◌else◌, ◌||◌, ◌&&◌, List, [], ◌∷◌, ◌++◌, length, map, filter, Option, Some, None, get_or}
-use Rattle.std.specs.List.{list_any, flat_map}
-use Rattle.std.specs.Str.{bytes_eq}
+use Rattle.std.specs.Prelude.{◌≡◌, ◌<◌, ◌+◌, ℕ, Bool, true, false, not, nat_lt, if◌then◌else◌, ◌||◌, List, [], ◌∷◌, ◌++◌, length, map, filter, Option, Some, None, get_or}
+use Rattle.std.specs.List.{flat_map}
 use Rattle.org_directory.specs.Register.{among, Register, key_at, is_inside, place_of, object_of, is_group, members_of}
 use Rattle.group_expand.specs.Ways.{Web, ways, here, first_of_each}
-use Rattle.org_directory.specs.Membership.{needs_approval}
 use Rattle.org_directory.specs.declared.object.Object.{Object}
 use Rattle.group_expand.specs.declared.way.Way.{Way}
 

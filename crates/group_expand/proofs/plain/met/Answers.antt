@@ -1,4 +1,4 @@
-use Rattle.std.proofs.Common.{◌≡◌, ◌∙◌, ap, subst, length}
+use Rattle.std.proofs.Common.{◌≡◌, ◌∙◌, ap, subst}
 use Rattle.std.specs.Prelude.{not, filter, map, IfOk, option_copied}
 use Rattle.group_expand.specs.Ways.{first_of_each}
 use Rattle.group_expand.specs.Routes.{all_ways, shut_by, leaves, closed_met}

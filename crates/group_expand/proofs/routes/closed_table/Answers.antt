@@ -1,4 +1,4 @@
-use Rattle.std.proofs.Common.{◌≡◌, ◌+◌, ◌<◌, ◌++◌, ◌∷◌, [], ℕ, arith, get_or, false, true, length, sym, subst, ap, ◌∙◌, option_copied}
+use Rattle.std.proofs.Common.{◌≡◌, ◌++◌, ◌∷◌, [], option_copied}
 use Rattle.group_expand.specs.Expansion.{is_closed}
 use Rattle.org_directory.specs.Register.{key_at}
 use Rattle.group_expand.proofs.Table.{table-more}

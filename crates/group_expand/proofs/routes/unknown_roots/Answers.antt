@@ -1,7 +1,7 @@
-use Rattle.std.proofs.Common.{◌≡◌, ◌+◌, ◌<◌, ◌++◌, ◌∷◌, suc, drop, drop-cons, get_or, length, arith, sym, subst, ap, ◌∙◌}
+use Rattle.std.proofs.Common.{◌≡◌, ◌+◌, ◌<◌, ◌++◌, ◌∷◌, suc, drop, drop-cons, get_or, length, arith, sym, ap, ◌∙◌}
 use Rattle.org_directory.specs.Register.{among}
 use Rattle.group_expand.specs.Ways.{fresh}
-use Rattle.group_expand.specs.Routes.{keys_of, unknown_ways, unknown}
+use Rattle.group_expand.specs.Routes.{keys_of, unknown_ways}
 use Rattle.group_expand.proofs.Table.{unknown-step}
 use Rattle.group_expand.proofs.routes.unknown_roots.Goals as goal
 

@@ -1,5 +1,5 @@
-use Rattle.std.proofs.Common.{◌≡◌, ◌+◌, ◌<◌, ◌≤◌, ℕ, [], subst, sym, arith, Some, None}
-use Rattle.group_expand.specs.Places.{Ready, Holds, Faces, Took, all_owed}
+use Rattle.std.proofs.Common.{◌≡◌, [], subst, sym, Some, None}
+use Rattle.group_expand.specs.Places.{Holds, Faces}
 use Rattle.org_directory.specs.Register.{key_at, place_of}
 use Rattle.group_expand.proofs.Steps.{left_out, root-faced, stranger-holds}
 use Rattle.org_directory.proofs.Places.{found-below}

@@ -1,4 +1,4 @@
-use Rattle.std.proofs.Common.{◌≡◌, ◌+◌, ◌<◌, ◌≤◌, arith, length, rules}
+use Rattle.std.proofs.Common.{◌<◌, ◌≤◌, arith, length, rules}
 use Rattle.group_expand.specs.Places.{all_owed}
 use Rattle.group_expand.proofs.Steps.{owes-one}
 use Rattle.group_expand.proofs.walk.run.Goals as goal

@@ -1,5 +1,5 @@
-use Rattle.std.proofs.Common.{◌≡◌, subst, sym, arith, set}
-use Rattle.group_expand.specs.Places.{Holds, Ready, all_owed, ends_at, places_of, entered}
+use Rattle.std.proofs.Common.{subst, sym, arith, set}
+use Rattle.group_expand.specs.Places.{Holds, Ready, all_owed, ends_at, places_of}
 use Rattle.org_directory.specs.Register.{key_at}
 use Rattle.group_expand.specs.Ways.{here}
 use Rattle.std.specs.Prelude.{◌++◌, ◌≤◌, true}

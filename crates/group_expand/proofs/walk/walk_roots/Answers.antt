@@ -1,8 +1,7 @@
-use Rattle.std.proofs.Common.{◌≡◌, ◌+◌, ◌<◌, ◌≤◌, ◌∷◌, [], suc, drop, drop-cons, get_or, length, arith, subst, sym, ap, ◌∙◌}
-use Rattle.group_expand.specs.Places.{Holds, Ready, all_owed, owed, no_marks}
+use Rattle.std.proofs.Common.{◌≡◌, ◌+◌, ◌<◌, ◌∷◌, [], suc, drop, drop-cons, get_or, length, arith, subst}
+use Rattle.group_expand.specs.Places.{Holds}
 use Rattle.group_expand.specs.Routes.{all_ways, shut_by}
 use Rattle.group_expand.specs.Ways.{first_of_each}
-use Rattle.group_expand.proofs.Steps.{start-holds, start-ready, end-sum}
 use Rattle.group_expand.proofs.walk.walk_roots.Goals as goal
 
 pub loop-root-preserved : goal.loop-root-preserved

@@ -1,4 +1,4 @@
-use Rattle.std.proofs.Common.{◌≡◌, ◌+◌, ◌≤◌, ℕ, List, [], drop, length}
+use Rattle.std.proofs.Common.{◌≡◌, ◌+◌, ◌≤◌, [], drop}
 use Rattle.group_expand.specs.Ways.{first_of_each}
 use Rattle.group_expand.specs.Routes.{all_ways, shut_by}
 use Rattle.group_expand.specs.Places.{all_owed, owed, no_marks, Ready, Holds}
