@@ -51,6 +51,17 @@ def contents():
         yield f"content and {more}", START + body, GREETING + STARTED + reply, 0
 
 
+def repeats():
+    """A message that is sent three times in one go, and then to one recipient more."""
+    content = b"DATA\r\nMessage-Id: <m1@example.com>\r\n\r\nHello\r\n.\r\n"
+    one = b"MAIL FROM:<ann@example.com>\r\nRCPT TO:<bob@example.com>\r\n"
+    two = one + b"RCPT TO:<cyn@example.com>\r\n"
+    begun, go = b"250 OK\r\n250 OK\r\n", b"354 End data with a dot line\r\n"
+    sent = b"HELO c\r\n" + (one + content) * 3 + two + content
+    told = GREETING + b"250 hub.invalid\r\n" + (begun + go + b"250 Accepted 1\r\n") * 3
+    return "repeats", sent, told + begun + b"250 OK\r\n" + go + b"250 Accepted 2\r\n", 0
+
+
 def ends():
     """Inputs that end inside a line or a content, and those that don't."""
     yield "no input", b"", GREETING, 0
@@ -66,7 +77,7 @@ def main():
     if not PROGRAM.exists():
         sys.exit(f"dialogues: {PROGRAM.relative_to(ROOT)} isn't built")
     failed = 0
-    for name, sent, told, status in [*transcripts(), recipients(), long_lines(), *contents(), *ends()]:
+    for name, sent, told, status in [*transcripts(), recipients(), long_lines(), repeats(), *contents(), *ends()]:
         with tempfile.TemporaryDirectory() as folder:
             run = subprocess.run([PROGRAM, "session"], input=sent, capture_output=True, cwd=folder, timeout=60)
         if run.stdout != told or run.returncode != status:
