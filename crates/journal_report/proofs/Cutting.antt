@@ -1,13 +1,11 @@
 -- What stands before a byte that isn't in a text.
-use Rattle.std.proofs.Common.{◌≡◌, ℕ, zero, suc, ◌+◌, ◌<◌, ◌≤◌, Bool, true, false, cond, List, [], ◌∷◌, ◌++◌, length, take, drop, refl, ap, ◌∙◌, sym, arith, append_assoc, append-nil}
-use Rattle.std.specs.Prelude.{◌&&◌, ◌==◌, not, nat_le}
-use Rattle.std.specs.List.{list_all, flat_map}
+use Rattle.std.proofs.Common.{◌≡◌, ℕ, suc, ◌+◌, ◌<◌, true, false, cond, List, [], ◌∷◌, ◌++◌, length, take, drop, refl, ap, ◌∙◌, sym, arith, append_assoc, append-nil}
+use Rattle.std.specs.Prelude.{◌==◌, not, nat_le}
 use Rattle.std.proofs.lemmas.Bool.Decides.{nat_tests}
-use Rattle.std.proofs.lemmas.List.{take_at, drop_at}
 use Rattle.std.proofs.Math.Seq.{take-length, drop-length, take-append_seam, drop-append_seam, drop-append-add}
-use Rattle.mail_message.specs.Lines.{crlf, ended}
-use Rattle.journal_report.specs.Reading.{place, line_of, behind_line, skip, line_at, before_space, from_space, behind_group}
-use Rattle.journal_report.proofs.Above.{above, parts, lower_bound}
+use Rattle.mail_message.specs.Lines.{crlf}
+use Rattle.journal_report.specs.Reading.{place, line_of, behind_line, before_space, from_space, behind_group}
+use Rattle.journal_report.proofs.Above.{above, parts}
 
 no_equal : (n b x : ℕ) → b < n → nat_le n x ≡ true → (x == b) ≡ false
 no_equal n b x h p = grind (arith, nat_tests)

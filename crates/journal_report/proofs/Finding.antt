@@ -1,20 +1,19 @@
 -- The parts of a report's bytes are those of the report.
-use Rattle.std.proofs.Common.{◌≡◌, ℕ, zero, suc, ◌+◌, ◌-◌, ◌^◌, ◌<◌, ◌≤◌, Bool, true, false, cond, List, [], ◌∷◌, ◌++◌, length, take, drop, refl, ap, ◌∙◌, sym, arith, append_assoc, length-append, Option, Some, None}
-use Rattle.std.specs.Prelude.{◌&&◌, codes, decimal, nat_le, nat_lt, IfSome}
-use Rattle.std.specs.List.{flat_map, list_all, AllByRecursion}
+use Rattle.std.proofs.Common.{◌≡◌, ℕ, ◌+◌, ◌-◌, ◌^◌, ◌<◌, ◌≤◌, true, false, List, [], ◌∷◌, ◌++◌, length, take, drop, refl, ap, ◌∙◌, arith, length-append, Option}
+use Rattle.std.specs.Prelude.{◌&&◌, codes, decimal, nat_le, nat_lt}
+use Rattle.std.specs.List.{list_all, AllByRecursion}
 use Rattle.std.proofs.lemmas.Bool.Decides.{nat_tests}
 use Rattle.std.proofs.lemmas.List.{take_at}
 use Rattle.mail_names.specs.Names.{name_text, IsItemName}
-use Rattle.mail_names.specs.Key.{IsKey}
 use Rattle.mail_names.specs.declared.name.ItemName.{ItemName}
-use Rattle.mail_message.specs.Lines.{crlf, ended}
+use Rattle.mail_message.specs.Lines.{crlf}
 use Rattle.mail_message.specs.Enclose.{boundary_of}
 use Rattle.journal_report.specs.declared.parts.ReportHead.{ReportHead}
 use Rattle.journal_report.specs.declared.parts.Line.{Line}
-use Rattle.journal_report.specs.Report.{report_line, to_line, date_line, id_line, subject_line, sender_text, sender_line, original_id_line, original_subject_line, count_line, about_lines, head_lines, target_line, list_text, report_text}
-use Rattle.journal_report.specs.Reports.{is_clean, has_group, is_report, FitsHead, FitsLine}
+use Rattle.journal_report.specs.Report.{report_line, to_line, sender_text, sender_line, original_id_line, original_subject_line, list_text, report_text}
+use Rattle.journal_report.specs.Reports.{is_clean, has_group, is_report, FitsHead}
 use Rattle.journal_report.specs.Reading.{place, line_at, skip, before_space, name_part, moment_part, mailbox_part, sender_part, id_part, subject_part, original_part, is_target, target_lines, TellsHead}
-use Rattle.journal_report.proofs.Above.{above, above-append, parts, name_above}
+use Rattle.journal_report.proofs.Above.{above-append, parts, name_above}
 use Rattle.journal_report.proofs.Cutting.{before_space_again, behind_space_again}
 use Rattle.journal_report.proofs.Visible.{Visible, report_visible, to_visible, date_line_visible, id_visible, subject_visible, sender_visible, original_id_visible, original_subject_visible, count_visible, mark_visible}
 use Rattle.journal_report.proofs.Shape.{text_of, front_lines, back_lines, behind_targets, end_of, shape, skip_again, line_at_again}

@@ -1,17 +1,15 @@
 -- The bytes of a report, line by line.
-use Rattle.std.proofs.Common.{◌≡◌, ℕ, zero, suc, ◌+◌, ◌-◌, ◌^◌, ◌<◌, ◌≤◌, Bool, true, false, List, [], ◌∷◌, ◌++◌, length, take, drop, map, refl, ap, ◌∙◌, sym, arith, append_assoc, append-nil, length-append}
-use Rattle.std.specs.Prelude.{codes, decimal, nat_le}
+use Rattle.std.proofs.Common.{◌≡◌, ℕ, zero, suc, ◌≤◌, List, [], ◌∷◌, ◌++◌, length, drop, map, refl, ap, ◌∙◌, sym, arith, append_assoc, append-nil}
+use Rattle.std.specs.Prelude.{codes}
 use Rattle.std.specs.List.{flat_map, AllByRecursion}
 use Rattle.std.proofs.lemmas.Grind.{flat_map-append}
-use Rattle.std.proofs.lemmas.List.{take_at}
 use Rattle.std.proofs.lemmas.List.Folds.{flat_map-map}
 use Rattle.mail_message.specs.Lines.{crlf, ended}
-use Rattle.mail_message.specs.Enclose.{enclosing, enclosed, inside, inside_lines, outer_fields, boundary_of}
+use Rattle.mail_message.specs.Enclose.{enclosed, boundary_of}
 use Rattle.journal_report.specs.declared.parts.ReportHead.{ReportHead}
 use Rattle.journal_report.specs.declared.parts.Line.{Line}
 use Rattle.journal_report.specs.Report.{head_lines, sender_line, about_lines, target_line, next, list_text, report_text}
-use Rattle.journal_report.specs.Reading.{place, line_of, behind_line, skip, line_at, target_lines}
-use Rattle.journal_report.proofs.Above.{above}
+use Rattle.journal_report.specs.Reading.{line_of, behind_line, skip, line_at, target_lines}
 use Rattle.journal_report.proofs.Visible.{Visible}
 use Rattle.journal_report.proofs.Cutting.{line_again, behind_again}
 

@@ -1,15 +1,14 @@
 -- What a reader gives, and the parts of what it is given.
-use Rattle.std.proofs.Common.{◌≡◌, ℕ, zero, suc, ◌+◌, ◌-◌, ◌^◌, ◌<◌, ◌≤◌, Bool, true, false, cond, List, [], ◌∷◌, ◌++◌, length, take, drop, refl, ap, ◌∙◌, sym, subst, arith, append_assoc, append-nil, Option, Some, None, Result, Ok, Err}
+use Rattle.std.proofs.Common.{◌≡◌, ℕ, ◌+◌, ◌^◌, ◌<◌, Bool, true, false, List, [], ◌∷◌, ◌++◌, length, drop, refl, ap, ◌∙◌, sym, subst, arith, append_assoc, append-nil, Result, Err}
 use Rattle.std.specs.Prelude.{codes, decimal, ◌==◌}
 use Rattle.std.specs.List.{flat_map, AllByRecursion}
 use Rattle.std.proofs.lemmas.List.{length-drop}
-use Rattle.mail_names.specs.Key.{IsKey, key_of}
+use Rattle.mail_names.specs.Key.{IsKey}
 use Rattle.mail_message.specs.Lines.{crlf, ended}
 use Rattle.journal_report.specs.declared.why.Why.{Why}
 use Rattle.journal_report.specs.declared.why.Why.TheVariants as whys
 use Rattle.journal_report.specs.declared.parts.Line.{Line}
 use Rattle.journal_report.specs.declared.reading.ReportFault.{ReportFault}
-use Rattle.journal_report.specs.declared.reading.ReportFault.TheVariants as faults
 use Rattle.journal_report.specs.Why.{hop, route_text, why_text}
 use Rattle.journal_report.specs.Report.{target_line}
 use Rattle.journal_report.specs.Reports.{FitsWhy, FitsLine}

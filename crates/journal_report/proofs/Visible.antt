@@ -1,7 +1,7 @@
 -- The lines of a report have no control byte.
-use Rattle.std.proofs.Common.{◌≡◌, ℕ, zero, suc, ◌+◌, ◌-◌, ◌/◌, ◌%◌, ◌^◌, ◌<◌, ◌≤◌, Bool, true, false, cond, List, [], ◌∷◌, ◌++◌, length, refl, ap, ◌∙◌, sym, arith, Option, Some, None}
-use Rattle.std.specs.Prelude.{◌&&◌, ◌==◌, not, nat_le, nat_lt, codes, decimal, slice_index_or, IfSome}
-use Rattle.std.specs.List.{list_all, flat_map, AllByRecursion}
+use Rattle.std.proofs.Common.{◌≡◌, ℕ, zero, suc, ◌+◌, ◌-◌, ◌/◌, ◌%◌, ◌^◌, ◌<◌, ◌≤◌, Bool, true, false, cond, List, [], ◌∷◌, ◌++◌, refl, arith, Option, Some, None}
+use Rattle.std.specs.Prelude.{◌&&◌, ◌==◌, not, nat_le, codes, decimal, slice_index_or, IfSome}
+use Rattle.std.specs.List.{flat_map, AllByRecursion}
 use Rattle.std.proofs.lemmas.Bool.Decides.{nat_tests}
 use Rattle.mail_names.specs.Key.{IsKey}
 use Rattle.mail_names.specs.Names.{name_text, IsItemName}

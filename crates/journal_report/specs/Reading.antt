@@ -1,11 +1,8 @@
 -- What a report's bytes tell of it. These readings don't fail: what they give is written again and compared.
-use Rattle.std.specs.Prelude.{◌≡◌, ⊤, ℕ, zero, suc, ◌+◌, ◌-◌, ◌^◌, ◌<◌, ◌==◌, ◌&&◌, not, nat_eq, nat_le, nat_lt, Bool, true, false, List, [], ◌∷◌, ◌++◌, length, take, drop, codes, decimal, Option, Some, None, IfSome, Result, Ok, Err}
-use Rattle.std.specs.List.{flat_map, list_all, position_or_len, starts_with, AllByRecursion}
-use Rattle.mail_names.specs.Key.{IsKey}
-use Rattle.mail_names.specs.Names.{name_text, IsItemName}
+use Rattle.std.specs.Prelude.{◌≡◌, ⊤, ℕ, zero, suc, ◌+◌, ◌-◌, ◌==◌, nat_eq, Bool, List, length, take, drop, codes, decimal, Result, Ok, Err}
+use Rattle.std.specs.List.{flat_map, position_or_len, starts_with}
+use Rattle.mail_names.specs.Names.{name_text}
 use Rattle.mail_message.specs.Lines.{ended}
-use Rattle.journal_report.specs.declared.why.Why.{Why}
-use Rattle.journal_report.specs.declared.why.Why.TheVariants as whys
 use Rattle.journal_report.specs.declared.parts.ReportHead.{ReportHead}
 use Rattle.journal_report.specs.declared.parts.Line.{Line}
 use Rattle.journal_report.specs.declared.reading.ReportFault.{ReportFault}
@@ -80,15 +77,6 @@ IsNoMemory faults.NotReport = ⊥
 abbrev pub Told : {X : Type 0} → (X → Type 0) → Result X ReportFault → Type 0
 Told P (Ok x) = P x
 Told P (Err e) = IsNoMemory e
-
--- the same but for the numbers of its name, whose text is the same
-pub record SameHead (head other : ReportHead) : Type 0 where
-  pub name : name_text other.name ≡ name_text head.name
-  pub moment : other.moment ≡ head.moment
-  pub mailbox : other.mailbox ≡ head.mailbox
-  pub sender : other.sender ≡ head.sender
-  pub id : other.message_id ≡ head.message_id
-  pub subject : other.subject ≡ head.subject
 
 -- the parts of these bytes are those of the head
 pub record TellsHead (bytes : List ℕ) (head : ReportHead) : Type 0 where

@@ -1,5 +1,5 @@
 -- Which reports there are.
-use Rattle.std.specs.Prelude.{◌≡◌, ⊤, ℕ, ◌^◌, ◌<◌, ◌==◌, ◌&&◌, not, nat_le, nat_lt, Bool, true, false, List, [], ◌∷◌, length, IfSome}
+use Rattle.std.specs.Prelude.{⊤, ℕ, ◌^◌, ◌<◌, ◌==◌, ◌&&◌, not, nat_le, nat_lt, Bool, true, false, List, [], ◌∷◌, length, IfSome}
 use Rattle.std.specs.List.{list_all, AllByRecursion}
 use Rattle.mail_names.specs.Key.{IsKey}
 use Rattle.mail_names.specs.Names.{IsItemName}

@@ -1,17 +1,19 @@
 // Journal reports, read.
-ghost use Rattle.std.specs.Prelude.{◌≡◌, ◌<◌, ◌^◌, ◌++◌, ℕ, true, false, length, decimal, Some, IfSome, IfOk, IsErrOf, ◌≤◌, bytes_eq, List, Option};
+ghost use Rattle.std.specs.Prelude.{◌≡◌, ◌<◌, ◌^◌, ◌++◌, ℕ, true, false, length, decimal, Some, IfSome, IfOk, ◌≤◌, bytes_eq, List, Option};
 ghost use Rattle.std.specs.Str.{all_ascii_digits};
 ghost use Rattle.std.specs.Str.Parse.{digits_value};
 ghost use Rattle.std.specs.Option.{SomeIff};
 ghost use Rattle.std.specs.List.{AllByRecursion, list_all};
 ghost use Rattle.mail_names.specs.Key.{IsKey};
+ghost use Rattle.mail_names.specs.Names.{IsItemName, name_text};
+ghost use Rattle.mail_names.specs.declared.name.ItemName.{ItemName};
 ghost use Rattle.journal_report.specs.declared.why.Why.{Why};
 ghost use Rattle.journal_report.specs.declared.parts.Line.{Line};
 ghost use Rattle.journal_report.specs.declared.parts.ReportHead.{ReportHead};
 ghost use Rattle.journal_report.specs.Why.{route_text, why_text};
 ghost use Rattle.journal_report.specs.Report.{sender_text, target_line, report_text};
 ghost use Rattle.journal_report.specs.Reports.{is_clean, has_group, is_report, FitsHead, FitsWhy, FitsLine};
-ghost use Rattle.journal_report.specs.Reading.{Told, SameHead, TellsHead, target_lines, is_target};
+ghost use Rattle.journal_report.specs.Reading.{Told, TellsHead, target_lines, is_target};
 
 use crate::cuts::{
     before_space, behind, behind_group, behind_line, from_space, is_target, line_of, original_part,
@@ -191,11 +193,29 @@ fn read_targets(alloc: Global, bytes: &[u8]) -> Result<Targets<'_>, ReportFault>
     Ok(Targets { lines, rest })
 }
 
+// The name that this text is.
+fn item_name(text: &[u8]) -> Option<ItemName>
+    ensures { (name : ItemName) → IsItemName name → text.now ≡ name_text name → result ≡ Some name }
+{
+    let ItemName {
+        submission,
+        release,
+        place,
+        mark,
+    } = ItemName::read(text)?;
+    Some(ItemName {
+        submission,
+        release,
+        place,
+        mark,
+    })
+}
+
 fn head(alloc: Global, bytes: &[u8]) -> Result<ReportHead, ReportFault>
-    ensures { (h : ReportHead) → FitsHead h → h.moment < 2 ^ 64 → TellsHead bytes.now h → Told (SameHead h) result }
+    ensures { (h : ReportHead) → FitsHead h → h.moment < 2 ^ 64 → TellsHead bytes.now h → Told (λ r. r ≡ h) result }
 {
     let parts = parts_of(bytes);
-    let Some(name) = ItemName::read(parts.name) else {
+    let Some(name) = item_name(parts.name) else {
         return Err(ReportFault::NotReport);
     };
     let Some(moment) = number(parts.moment) else {
@@ -223,7 +243,7 @@ fn head(alloc: Global, bytes: &[u8]) -> Result<ReportHead, ReportFault>
 fn candidate(alloc: Global, bytes: &[u8]) -> Result<Report, ReportFault>
     ensures { (head : ReportHead) (lines : List Line) (original : List ℕ) → FitsHead head → AllByRecursion FitsLine lines →
         is_report head lines ≡ true → bytes.now ≡ report_text head lines original →
-        Told (λ r. SameHead head r.head × (r.lines ≡ lines) × (r.original ≡ original)) result }
+        Told (λ r. r ≡ record { head = head; lines = lines; original = original }) result }
 {
     let head = match head(alloc, bytes) {
         Ok(head) => head,
@@ -298,9 +318,9 @@ fn is_text(alloc: Global, candidate: &Report, bytes: &[u8]) -> Result<bool, NoMe
 /// group wherever a target is a member of one.
 pub fn read_report(alloc: Global, bytes: &[u8]) -> Result<Report, ReportFault>
     ensures ok { IfOk result (λ r. (is_report r.head r.lines ≡ true) × (bytes.now ≡ report_text r.head r.lines r.original)) }
-    ensures not_report { IsErrOf result ReportFault.NotReport →
-        (head : ReportHead) (lines : List Line) (original : List ℕ) → FitsHead head → AllByRecursion FitsLine lines →
-        is_report head lines ≡ true → bytes.now ≡ report_text head lines original → ⊥ }
+    ensures only { (head : ReportHead) (lines : List Line) (original : List ℕ) → FitsHead head → AllByRecursion FitsLine lines →
+        is_report head lines ≡ true → bytes.now ≡ report_text head lines original →
+        Told (λ r. r ≡ record { head = head; lines = lines; original = original }) result }
 {
     let report = match candidate(alloc, bytes) {
         Ok(report) => report,

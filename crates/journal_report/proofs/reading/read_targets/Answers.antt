@@ -1,6 +1,5 @@
-use Rattle.std.proofs.Common.{◌≡◌, ◌∙◌, List, ℕ, ap, sym}
+use Rattle.std.proofs.Common.{◌≡◌, ◌∙◌, sym}
 use Rattle.journal_report.specs.declared.parts.Line.{Line}
-use Rattle.journal_report.specs.Reading.{is_target}
 use Rattle.journal_report.proofs.Told.{told_err, first_target, no_target, goes_down, one_more}
 use Rattle.journal_report.proofs.reading.read_targets.Goals as goal
 
