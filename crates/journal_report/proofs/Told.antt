@@ -11,8 +11,8 @@ use Rattle.journal_report.specs.declared.parts.Line.{Line}
 use Rattle.journal_report.specs.declared.reading.ReportFault.{ReportFault}
 use Rattle.journal_report.specs.Why.{hop, route_text, why_text}
 use Rattle.journal_report.specs.Report.{target_line}
-use Rattle.journal_report.specs.Reports.{FitsWhy, FitsLine}
-use Rattle.journal_report.specs.Reading.{Told, IsNoMemory, place, before_space, from_space, behind_group, line_of, behind_line, is_target, target_lines}
+use Rattle.journal_report.specs.Reports.{FitsWhy, FitsLine, Told, IsNoMemory}
+use Rattle.journal_report.specs.Reading.{place, before_space, from_space, behind_group, line_of, behind_line, is_target, target_lines}
 use Rattle.journal_report.proofs.Above.{above, above-append, lower_bound, decimal_above, key_above}
 use Rattle.journal_report.proofs.Cutting.{before_space_end, before_space_again, from_space_end, from_space_again, behind_group_end, behind_group_again, line_again, behind_again}
 

@@ -5,8 +5,6 @@ use Rattle.mail_names.specs.Names.{name_text}
 use Rattle.mail_message.specs.Lines.{ended}
 use Rattle.journal_report.specs.declared.parts.ReportHead.{ReportHead}
 use Rattle.journal_report.specs.declared.parts.Line.{Line}
-use Rattle.journal_report.specs.declared.reading.ReportFault.{ReportFault}
-use Rattle.journal_report.specs.declared.reading.ReportFault.TheVariants as faults
 use Rattle.journal_report.specs.Report.{sender_text, target_line}
 
 -- how many bytes stand before the first one that is b
@@ -68,15 +66,6 @@ is_target rest = starts_with nat_eq rest (codes "Recipient: ")
 
 abbrev pub target_lines : List Line → List ℕ
 target_lines lines = flat_map (λ line. ended (target_line line)) lines
-
-abbrev pub IsNoMemory : ReportFault → Type 0
-IsNoMemory faults.NoMemory = ⊤
-IsNoMemory faults.NotReport = ⊥
-
--- what a reader gives, where there is something to give
-abbrev pub Told : {X : Type 0} → (X → Type 0) → Result X ReportFault → Type 0
-Told P (Ok x) = P x
-Told P (Err e) = IsNoMemory e
 
 -- the parts of these bytes are those of the head
 pub record TellsHead (bytes : List ℕ) (head : ReportHead) : Type 0 where

@@ -1,5 +1,5 @@
 -- Which reports there are.
-use Rattle.std.specs.Prelude.{⊤, ℕ, ◌^◌, ◌<◌, ◌==◌, ◌&&◌, not, nat_le, nat_lt, Bool, true, false, List, [], ◌∷◌, length, IfSome}
+use Rattle.std.specs.Prelude.{⊤, ℕ, ◌^◌, ◌<◌, ◌==◌, ◌&&◌, not, nat_le, nat_lt, Bool, true, false, List, [], ◌∷◌, length, IfSome, Result, Ok, Err}
 use Rattle.std.specs.List.{list_all, AllByRecursion}
 use Rattle.mail_names.specs.Key.{IsKey}
 use Rattle.mail_names.specs.Names.{IsItemName}
@@ -7,6 +7,8 @@ use Rattle.journal_report.specs.declared.why.Why.{Why}
 use Rattle.journal_report.specs.declared.why.Why.TheVariants as whys
 use Rattle.journal_report.specs.declared.parts.ReportHead.{ReportHead}
 use Rattle.journal_report.specs.declared.parts.Line.{Line}
+use Rattle.journal_report.specs.declared.reading.ReportFault.{ReportFault}
+use Rattle.journal_report.specs.declared.reading.ReportFault.TheVariants as faults
 
 -- no control byte
 abbrev pub is_clean : List ℕ → Bool
@@ -42,3 +44,12 @@ FitsWhy (whys.Redirected rule) = rule < 2 ^ 32
 pub record FitsLine (line : Line) : Type 0 where
   pub target : IsKey line.target
   pub why : FitsWhy line.why
+
+abbrev pub IsNoMemory : ReportFault → Type 0
+IsNoMemory faults.NoMemory = ⊤
+IsNoMemory faults.NotReport = ⊥
+
+-- What a reader gives, where there is something to give: that, unless memory ran out.
+abbrev pub Told : {X : Type 0} → (X → Type 0) → Result X ReportFault → Type 0
+Told P (Ok x) = P x
+Told P (Err e) = IsNoMemory e

@@ -12,8 +12,8 @@ ghost use Rattle.journal_report.specs.declared.parts.Line.{Line};
 ghost use Rattle.journal_report.specs.declared.parts.ReportHead.{ReportHead};
 ghost use Rattle.journal_report.specs.Why.{route_text, why_text};
 ghost use Rattle.journal_report.specs.Report.{sender_text, target_line, report_text};
-ghost use Rattle.journal_report.specs.Reports.{is_clean, has_group, is_report, FitsHead, FitsWhy, FitsLine};
-ghost use Rattle.journal_report.specs.Reading.{Told, TellsHead, target_lines, is_target};
+ghost use Rattle.journal_report.specs.Reports.{is_clean, has_group, is_report, FitsHead, FitsWhy, FitsLine, Told};
+ghost use Rattle.journal_report.specs.Reading.{TellsHead, target_lines, is_target};
 
 use crate::cuts::{
     before_space, behind, behind_group, behind_line, from_space, is_target, line_of, original_part,
