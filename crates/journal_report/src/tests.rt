@@ -1,4 +1,4 @@
-use crate::{Line, ReportHead, Why, add_why_text, report};
+use crate::{Line, Report, ReportFault, ReportHead, Why, add_why_text, read_report, report};
 use mail_names::{Bytes, ItemName, Items, Key, Mark};
 use std::alloc::Global;
 use std::test::Fail;
@@ -69,7 +69,7 @@ hi\r
 --=_hub_0--\r
 ";
 
-fn head(alloc: Global) -> Result<ReportHead, Fail> {
+fn head(alloc: Global, sender: Option<Key>, subject: &str) -> Result<ReportHead, Fail> {
     Ok(ReportHead {
         name: ItemName {
             submission: 1,
@@ -79,16 +79,16 @@ fn head(alloc: Global) -> Result<ReportHead, Fail> {
         },
         moment: 1_772_323_200,
         mailbox: key(alloc, "jo@example.com")?,
-        sender: Some(key(alloc, "ann@example.com")?),
+        sender,
         message_id: Bytes::of(alloc, b"<m15@example.com>")?,
-        subject: Bytes::new(alloc),
+        subject: Bytes::of(alloc, subject.as_bytes())?,
     })
 }
 
 #[test]
 fn a_report_as_bytes(rt: HostRuntime) -> Result<(), Fail> {
     let alloc = rt.alloc();
-    let head = head(alloc)?;
+    let head = head(alloc, Some(key(alloc, "ann@example.com")?), "")?;
     assert!(rt; head.moment <= 253_402_300_799);
     let lines = [
         Line {
@@ -103,5 +103,52 @@ fn a_report_as_bytes(rt: HostRuntime) -> Result<(), Fail> {
     let original = b"Message-Id: <m15@example.com>\r\n\r\nhi";
     let text = report(alloc, &head, &lines, original)?;
     assert_eq!(rt; text.as_slice(), REPORT.as_bytes());
+    Ok(())
+}
+
+fn told(alloc: Global, text: &[u8]) -> Result<Report, Fail> {
+    Ok(read_report(alloc, text).ok().ok_or("no report")?)
+}
+
+#[test]
+fn a_report_read(rt: HostRuntime) -> Result<(), Fail> {
+    let read = told(rt.alloc(), REPORT.as_bytes())?;
+    assert_eq!(rt; read.head.moment, 1_772_323_200);
+    assert_eq!(rt; read.lines.len(), 2);
+    assert_eq!(rt;
+        read.original.as_slice(),
+        b"Message-Id: <m15@example.com>\r\n\r\nhi".as_slice()
+    );
+    Ok(())
+}
+
+#[test]
+fn a_route_and_delimiters_read_back(rt: HostRuntime) -> Result<(), Fail> {
+    let alloc = rt.alloc();
+    let head = head(alloc, None, "\u{fc}ber > --=_hub_0")?;
+    assert!(rt; head.moment <= 253_402_300_799);
+    let lines = [Line {
+        target: key(alloc, "zed@example.net")?,
+        why: via(alloc, "club@example.com", "staff@b")?,
+    }];
+    let original = b"\r\n--=_hub_1--\r\nRecipient: no@b\r\n";
+    let text = report(alloc, &head, &lines, original)?;
+    let read = told(alloc, text.as_slice())?;
+    assert!(rt; read.head.sender.is_none());
+    assert_eq!(rt; read.original.as_slice(), original.as_slice());
+    Ok(())
+}
+
+#[test]
+fn bytes_that_are_no_report(rt: HostRuntime) -> Result<(), Fail> {
+    let mut changed = Vec::from_slice(rt.alloc(), REPORT.as_bytes())?;
+    for at in 0..26 {
+        assert!(rt; at < changed.len());
+        let old = changed[at];
+        changed[at] = b'/';
+        let fault = read_report(rt.alloc(), changed.as_slice()).err();
+        assert_eq!(rt; fault, Some(ReportFault::NotReport), "at {at}");
+        changed[at] = old;
+    }
     Ok(())
 }

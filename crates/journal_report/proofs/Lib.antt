@@ -1,0 +1,6 @@
+pub mod Above
+pub mod Cutting
+pub mod Finding
+pub mod Shape
+pub mod Told
+pub mod Visible
