@@ -51,6 +51,16 @@ def contents():
         yield f"content and {more}", START + body, GREETING + STARTED + reply, 0
 
 
+def unreadable():
+    """Contents that are no message: without an empty line, and with lines that are no field. The session goes on."""
+    begun, go = b"250 OK\r\n250 OK\r\n", b"354 End data with a dot line\r\n"
+    sent, told = b"HELO c\r\n", GREETING + b"250 hub.invalid\r\n"
+    for content, fault in ((b"a: b\r\n", 1), (b"no header\r\n", 2), (b": x\r\n\r\n", 2), (b"", 1)):
+        sent += b"MAIL FROM:<>\r\nRCPT TO:<bob@example.com>\r\nDATA\r\n" + content + b".\r\n"
+        told += begun + go + b"554 Message can't be read: fault %d\r\n" % fault
+    return "unreadable contents", sent, told, 0
+
+
 def repeats():
     """A message that is sent three times in one go, and then to one recipient more."""
     content = b"DATA\r\nMessage-Id: <m1@example.com>\r\n\r\nHello\r\n.\r\n"
@@ -77,7 +87,7 @@ def main():
     if not PROGRAM.exists():
         sys.exit(f"dialogues: {PROGRAM.relative_to(ROOT)} isn't built")
     failed = 0
-    for name, sent, told, status in [*transcripts(), recipients(), long_lines(), repeats(), *contents(), *ends()]:
+    for name, sent, told, status in [*transcripts(), recipients(), long_lines(), unreadable(), repeats(), *contents(), *ends()]:
         with tempfile.TemporaryDirectory() as folder:
             run = subprocess.run([PROGRAM, "session"], input=sent, capture_output=True, cwd=folder, timeout=60)
         if run.stdout != told or run.returncode != status:
