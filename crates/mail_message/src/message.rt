@@ -201,6 +201,20 @@ impl Message {
         Ok(Message { fields, body })
     }
 
+    /// A copy of the message.
+    pub fn copy(&self, alloc: Global) -> Result<Message, NoMemory>
+        ensures { IfOk result (λ m. m ≡ self.now) }
+    {
+        let mut fields = Vec::new(alloc);
+        for raw in self.fields.as_slice() {
+            fields.push(Bytes::of(alloc, raw.as_slice())?)?;
+        }
+        Ok(Message {
+            fields,
+            body: Bytes::of(alloc, self.body.as_slice())?,
+        })
+    }
+
     /// The bytes of the message: what was read, as edited. They read to the message again.
     pub fn bytes(&self, alloc: Global) -> Result<Bytes, NoMemory>
         ensures text { IfOk result (λ bytes. bytes ≡ text self.now) }
