@@ -1,0 +1,5 @@
+pub mod ReadItems
+pub mod TableKeys
+pub mod BookForms
+pub mod DeedForms
+pub mod BookReading
