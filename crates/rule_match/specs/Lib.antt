@@ -1,0 +1,3 @@
+pub mod Applies
+pub mod Header
+pub mod Words
