@@ -1,0 +1,5 @@
+pub mod Falling
+pub mod Growing
+pub mod Indexing
+pub mod Noting
+pub mod Placing

@@ -1,0 +1,13 @@
+use Rattle.std.proofs.Common.{◌≡◌, drop, true}
+use Rattle.std.specs.List.{list_all}
+use Rattle.std.specs.Option.{option_copied}
+use Rattle.rule_terms.specs.Forms.{is_action}
+use Rattle.rule_engine.specs.Fate.{after_actions}
+use Rattle.rule_engine.proofs.recipient.do_actions.Given as goal
+
+abbrev pub invariant-loop-action : goal.invariant-loop-action
+invariant-loop-action l = record {
+  form : list_all is_action (drop l.action-index l.actions) ≡ true;
+  rest : after_actions (option_copied l.sender) l.opened l.rule (drop l.action-index l.actions) l.progress
+      ≡ after_actions (option_copied l.sender) l.opened l.rule l.actions l.fn.progress;
+}

@@ -1,0 +1,299 @@
+// What becomes of one recipient.
+ghost use Rattle.std.specs.Prelude.{◌≡◌, ◌≤◌, ℕ, List, Option, true, length, IfOk, OnOk, option_copied};
+ghost use Rattle.std.specs.List.{list_all};
+ghost use Rattle.org_directory.specs.Register.{among};
+ghost use Rattle.mail_names.specs.declared.gate.Gate.{Gate};
+ghost use Rattle.rule_terms.specs.Forms.{is_action, is_rule};
+ghost use Rattle.rule_engine.specs.Gates.{opens, is_opened};
+ghost use Rattle.rule_engine.specs.Fate.{stage, side, is_one_of, now, with_copy, after_effect, disclaim, act, after_actions, after_rule, fate};
+
+use mail_message::{Message, Place};
+use mail_names::{Bytes, Gate, Items, Key, NoMemory};
+use org_directory::Directory;
+use rule_match::applies;
+use rule_terms::{Action, Fallback, Rule};
+use std::alloc::Global;
+
+/// A copy that a rule made: its target, the text as it was by then, and the place of the rule.
+#[derive(Drop)]
+pub struct MadeCopy {
+    pub target: Key,
+    pub text: Bytes,
+    pub rule: u32,
+}
+
+/// How the fold of the rules ends for a recipient.
+#[derive(Drop)]
+pub enum End {
+    /// It gets the text.
+    Keep { text: Bytes },
+    /// The target gets the text.
+    Redirect { target: Key, text: Bytes, rule: u32 },
+    /// It is rejected with the code `5.7.CODE` and these words.
+    Reject { rule: u32, code: u32, words: Bytes },
+    /// It waits for the gate of this rule.
+    Held { rule: u32 },
+}
+
+/// What the fold carries from rule to rule.
+#[derive(Drop)]
+pub struct Progress {
+    pub message: Message,
+    pub copies: Items<MadeCopy>,
+}
+
+/// What becomes of a recipient: the copies that rules made for it, and how its fold ends.
+#[derive(Drop)]
+pub struct Outcome {
+    pub copies: Items<MadeCopy>,
+    pub end: End,
+}
+
+fn is_gate_of(rule: u32, gate: &Gate) -> bool
+    ensures { result ≡ opens rule gate.now }
+{
+    match gate {
+        Gate::Object { .. } => false,
+        Gate::Rule { place } => rule == *place,
+    }
+}
+
+fn is_opened(opened: &[Gate], rule: u32) -> bool
+    ensures { result ≡ is_opened opened.now rule }
+{
+    opened.iter().any(|gate| is_gate_of(rule, gate))
+}
+
+fn is_among(sender: &Key, keys: &[Key]) -> bool
+    ensures { result ≡ among sender.now keys.now }
+{
+    keys.iter().any(|key| *sender == *key)
+}
+
+fn is_one_of(sender: Option<&Key>, keys: &[Key]) -> bool
+    ensures { result ≡ is_one_of (option_copied sender.entry) keys.now }
+{
+    match sender {
+        None => false,
+        Some(sender) => is_among(sender, keys),
+    }
+}
+
+fn side(before: bool) -> Place
+    ensures { result ≡ side before }
+{
+    if before { Place::Before } else { Place::After }
+}
+
+fn add_copy(alloc: Global, rule: u32, target: &Key, progress: &mut Progress) -> Result<(), NoMemory>
+    ensures { OnOk result (progress.new ≡ with_copy rule target.now progress.old) }
+{
+    let text = progress.message.bytes(alloc)?;
+    let target = target.copy(alloc)?;
+    progress.copies.push(MadeCopy { target, text, rule })?;
+    Ok(())
+}
+
+fn redirected(alloc: Global, rule: u32, target: &Key, progress: &Progress) -> Result<End, NoMemory>
+    ensures { IfOk result (λ end. end ≡ End.Redirect target.now (now progress.now) rule) }
+{
+    let text = progress.message.bytes(alloc)?;
+    let target = target.copy(alloc)?;
+    Ok(End::Redirect { target, text, rule })
+}
+
+fn rejected(alloc: Global, rule: u32, code: u32, words: &[u8]) -> Result<End, NoMemory>
+    ensures { IfOk result (λ end. end ≡ End.Reject rule code words.now) }
+{
+    let words = Bytes::of(alloc, words)?;
+    Ok(End::Reject { rule, code, words })
+}
+
+// Adds a disclaimer, or does what its fallback says. Nobody's approval matters.
+fn add_disclaimer(
+    alloc: Global,
+    rule: u32,
+    before: bool,
+    text: &Bytes,
+    fallback: Fallback,
+    progress: &mut Progress,
+) -> Result<Option<End>, NoMemory>
+    ensures { IfOk result (λ end. (sender : Option (List ℕ)) → (opened : List Gate) → stage progress.new end ≡
+        after_effect sender opened rule (disclaim before text.now fallback progress.old.message) progress.old) }
+{
+    if progress.message.is_plain(alloc)? {
+        progress
+            .message
+            .add_text(alloc, side(before), text.as_slice())?;
+        return Ok(None);
+    }
+    match fallback {
+        Fallback::Wrap => {
+            progress.message.wrap(alloc, text.as_slice())?;
+            Ok(None)
+        }
+        Fallback::Ignore => Ok(None),
+        Fallback::Reject => {
+            let end = rejected(alloc, rule, 1, b"Disclaimer can't be added.")?;
+            Ok(Some(end))
+        }
+    }
+}
+
+// Does one action.
+fn do_action(
+    alloc: Global,
+    sender: Option<&Key>,
+    opened: &[Gate],
+    rule: u32,
+    action: &Action,
+    progress: &mut Progress,
+) -> Result<Option<End>, NoMemory>
+    requires { is_action action.now ≡ true }
+    ensures { IfOk result (λ end. stage progress.new end ≡
+        after_effect (option_copied sender.entry) opened.now rule (act action.now progress.old.message) progress.old) }
+{
+    match action {
+        Action::Prepend { text } => {
+            progress.message.prepend_subject(alloc, text.as_slice())?;
+            Ok(None)
+        }
+        Action::SetField { field, text } => {
+            progress
+                .message
+                .set_field(alloc, field.as_slice(), text.as_slice())?;
+            Ok(None)
+        }
+        Action::RemoveField { field } => {
+            progress.message.remove_field(field.as_slice())?;
+            Ok(None)
+        }
+        Action::CopyTo { target } => {
+            add_copy(alloc, rule, target, progress)?;
+            Ok(None)
+        }
+        Action::Disclaimer {
+            before,
+            text,
+            fallback,
+        } => add_disclaimer(alloc, rule, *before, text, *fallback, progress),
+        Action::RedirectTo { target } => {
+            let end = redirected(alloc, rule, target, progress)?;
+            Ok(Some(end))
+        }
+        Action::Reject { code, words } => {
+            let end = rejected(alloc, rule, *code, words.as_slice())?;
+            Ok(Some(end))
+        }
+        Action::Approve { by } => {
+            if is_opened(opened, rule) || is_one_of(sender, by.as_slice()) {
+                return Ok(None);
+            }
+            Ok(Some(End::Held { rule }))
+        }
+    }
+}
+
+// Does the actions of a rule.
+fn do_actions(
+    alloc: Global,
+    sender: Option<&Key>,
+    opened: &[Gate],
+    rule: u32,
+    actions: &[Action],
+    progress: &mut Progress,
+) -> Result<Option<End>, NoMemory>
+    requires { list_all is_action actions.now ≡ true }
+    ensures { IfOk result (λ end. stage progress.new end ≡
+        after_actions (option_copied sender.entry) opened.now rule actions.now progress.old) }
+{
+    for action in actions {
+        if let Some(end) = do_action(alloc, sender, opened, rule, action, progress)? {
+            return Ok(Some(end));
+        }
+    }
+    Ok(None)
+}
+
+// Does one rule, where it applies.
+fn do_rule(
+    alloc: Global,
+    directory: &Directory,
+    sender: Option<&Key>,
+    moment: u64,
+    opened: &[Gate],
+    recipient: &Key,
+    place: u32,
+    rule: &Rule,
+    progress: &mut Progress,
+) -> Result<Option<End>, NoMemory>
+    requires { is_rule rule.now ≡ true }
+    ensures { IfOk result (λ end. stage progress.new end ≡
+        after_rule (record { directory = directory.now; sender = option_copied sender.entry; moment = moment }) opened.now recipient.now place rule.now progress.old) }
+{
+    if !applies(
+        alloc,
+        rule,
+        directory,
+        sender,
+        recipient,
+        &progress.message,
+        moment,
+    )? {
+        return Ok(None);
+    }
+    let actions = rule.actions.as_slice();
+    if let Some(end) = do_actions(alloc, sender, opened, place, actions, progress)? {
+        return Ok(Some(end));
+    }
+    if rule.stop {
+        let text = progress.message.bytes(alloc)?;
+        return Ok(Some(End::Keep { text }));
+    }
+    Ok(None)
+}
+
+/// What becomes of one recipient. A rule applies, or doesn't, by the message as the earlier rules left it for this
+/// recipient.
+pub fn judge(
+    alloc: Global,
+    rules: &[Rule],
+    directory: &Directory,
+    sender: Option<&Key>,
+    moment: u64,
+    opened: &[Gate],
+    message: &Message,
+    recipient: &Key,
+) -> Result<Outcome, NoMemory>
+    requires few { length rules.now ≤ 100 }
+    requires form { list_all is_rule rules.now ≡ true }
+    ensures { IfOk result (λ outcome. outcome ≡
+        fate rules.now (record { directory = directory.now; sender = option_copied sender.entry; moment = moment }) message.now opened.now recipient.now) }
+{
+    let mut progress = Progress {
+        message: message.copy(alloc)?,
+        copies: Items::new(alloc),
+    };
+    for (i, rule) in rules.iter().enumerate() {
+        if let Some(end) = do_rule(
+            alloc,
+            directory,
+            sender,
+            moment,
+            opened,
+            recipient,
+            i as u32,
+            rule,
+            &mut progress,
+        )? {
+            let Progress { message: _, copies } = progress;
+            return Ok(Outcome { copies, end });
+        }
+    }
+    let text = progress.message.bytes(alloc)?;
+    let Progress { message: _, copies } = progress;
+    Ok(Outcome {
+        copies,
+        end: End::Keep { text },
+    })
+}
