@@ -1,0 +1,12 @@
+//! What the hub tells senders and moderators: the texts of its notices.
+#![tactic(auto)]
+
+mod kinds;
+mod lines;
+mod text;
+
+pub use kinds::{About, Notice};
+pub use text::notice;
+
+#[cfg(test)]
+mod tests;
