@@ -7,7 +7,7 @@ use Rattle.mail_plan.specs.declared.entry.Entry.TheVariants as entries
 use Rattle.mail_plan.proofs.Standing.{There, first, same, behind}
 use Rattle.mail_plan.proofs.Parts.{HasPart, IsByte, form_byte}
 
-one_byte : OneForm IsByte form_byte
+pub one_byte : OneForm IsByte form_byte
 one_byte a b more rest here there is = (cc is, ap (λ (l : List ℕ). tail l) is)
   where
     tail : List ℕ → List ℕ

@@ -11,8 +11,8 @@ use Rattle.mail_names.specs.declared.name.Mark.{Mark}
 use Rattle.mail_names.specs.declared.name.Mark.TheVariants as marks
 use Rattle.journal_report.specs.declared.why.Why.{Why}
 use Rattle.journal_report.specs.declared.why.Why.TheVariants as whys
-use Rattle.mail_plan.specs.EntryText.{le32, le64, form_bytes, form_key_option, form_all, form_mark, form_name, form_kind, form_why, form_item, form_release, form_origin, form_submission, entry_text}
-use Rattle.mail_plan.specs.Entries.{IsU32, IsU64, IsBytes, IsKeyOption, IsListOf, IsName, IsWhy, IsItem, IsRelease, IsOrigin, IsSubmission, IsEntry}
+use Rattle.mail_plan.specs.EntryText.{le32, le64, form_bytes, form_key_option, form_all, form_mark, form_name, form_kind, form_why, form_gate, form_item, form_tell, form_hold, form_end, form_release, form_origin, form_submission, entry_text}
+use Rattle.mail_plan.specs.Entries.{IsU32, IsU64, IsBytes, IsKeyOption, IsListOf, IsName, IsWhy, IsGate, IsItem, IsHold, IsEnd, IsRelease, IsOrigin, IsSubmission, IsEntry}
 use Rattle.mail_plan.specs.Reading.{OneForm}
 use Rattle.mail_plan.specs.Submission.{Submitted}
 use Rattle.mail_plan.specs.declared.submission.Origin.{Origin}
@@ -20,7 +20,14 @@ use Rattle.mail_plan.specs.declared.submission.Origin.TheVariants as origins
 use Rattle.mail_plan.specs.declared.release.Item.{Item}
 use Rattle.mail_plan.specs.declared.release.ItemKind.{ItemKind}
 use Rattle.mail_plan.specs.declared.release.ItemKind.TheVariants as kinds
+use Rattle.mail_plan.specs.declared.release.Hold.{Hold}
+use Rattle.mail_plan.specs.declared.release.End.{End}
+use Rattle.mail_plan.specs.declared.release.End.TheVariants as ends
 use Rattle.mail_plan.specs.declared.release.Release.{Release}
+use Rattle.org_directory.specs.declared.object.Tell.{Tell}
+use Rattle.org_directory.specs.declared.object.Tell.TheVariants as tells
+use Rattle.mail_names.specs.declared.gate.Gate.{Gate}
+use Rattle.mail_names.specs.declared.gate.Gate.TheVariants as gates
 use Rattle.mail_plan.specs.declared.entry.Entry.TheVariants as entries
 use Rattle.mail_plan.proofs.Numbers.{length-le32, length-le64, le32_same, le64_same}
 
@@ -212,16 +219,90 @@ one_item a b more rest here there is =
     let r = one_le32 a.text b.text more rest here.text there.text w.1 in
     (same_item a b p.0 q.0 k.0 w.0 r.0, r.1)
 
-zeros : length (le32 0 ++ le32 0) ≡ 8
-unfolding le32
-zeros = refl
+pub one_gate : OneForm IsGate form_gate
+one_gate (gates.Object a) (gates.Object b) more rest here there is =
+    let p = one_key a b more rest here there (ap (λ (l : List ℕ). drop 1 l) is) in
+    (ap (λ (k : List ℕ). gates.Object k) p.0, p.1)
+one_gate (gates.Rule a) (gates.Rule b) more rest here there is =
+    let p = one_le32 a b more rest here there (ap (λ (l : List ℕ). drop 1 l) is) in
+    (ap (λ (n : ℕ). gates.Rule n) p.0, p.1)
+one_gate (gates.Object a) (gates.Rule b) more rest here there is = absurd (cc is)
+one_gate (gates.Rule a) (gates.Object b) more rest here there is = absurd (cc is)
+
+tell_of : List ℕ → Tell
+tell_of [] = tells.Always
+tell_of (zero ∷ bytes) = tells.Always
+tell_of (suc zero ∷ bytes) = tells.Internal
+tell_of (suc (suc n) ∷ bytes) = tells.Never
+
+tell_back : (t : Tell) (more : List ℕ) → tell_of (form_tell t ++ more) ≡ t
+unfolding tell_of
+tell_back tells.Always more = refl
+tell_back tells.Internal more = refl
+tell_back tells.Never more = refl
+
+tell_behind : (t : Tell) (more : List ℕ) → drop 1 (form_tell t ++ more) ≡ more
+tell_behind tells.Always more = refl
+tell_behind tells.Internal more = refl
+tell_behind tells.Never more = refl
+
+abbrev pub IsTell : Tell → Type 0
+IsTell t = ⊤
+
+pub one_tell : OneForm IsTell form_tell
+one_tell a b more rest here there is = (
+  sym (tell_back a more) ∙ ap tell_of is ∙ tell_back b rest,
+  sym (tell_behind a more) ∙ ap (λ (l : List ℕ). drop 1 l) is ∙ tell_behind b rest,
+)
+
+abbrev pub one_keys : OneForm (IsListOf IsKey) (form_all form_bytes)
+one_keys = one_list IsKey form_bytes one_key
+
+same_hold : (a b : Hold) → a.gate ≡ b.gate → a.label ≡ b.label → a.moderators ≡ b.moderators → a.tell ≡ b.tell → a ≡ b
+same_hold a b gate label moderators tell =
+    ap (λ (x : Gate). record { gate = x; label = a.label; moderators = a.moderators; tell = a.tell }) gate
+    ∙ ap (λ (x : List ℕ). record { gate = b.gate; label = x; moderators = a.moderators; tell = a.tell }) label
+    ∙ ap (λ (x : List (List ℕ)). record { gate = b.gate; label = b.label; moderators = x; tell = a.tell }) moderators
+    ∙ ap (λ (x : Tell). record { gate = b.gate; label = b.label; moderators = b.moderators; tell = x }) tell
+
+pub one_hold : OneForm IsHold form_hold
+one_hold a b more rest here there is =
+    let p = parts IsGate form_gate one_gate a.gate b.gate _ _ more rest here.gate there.gate is in
+    let q = parts IsBytes form_bytes one_bytes a.label b.label _ _ more rest here.label there.label p.1 in
+    let r = parts (IsListOf IsKey) (form_all form_bytes) one_keys a.moderators b.moderators _ _ more rest here.moderators there.moderators q.1 in
+    let s = one_tell a.tell b.tell more rest tt tt r.1 in
+    (same_hold a b p.0 q.0 r.0 s.0, s.1)
+
+pub one_end : OneForm IsEnd form_end
+one_end (ends.Rejected a xs) (ends.Rejected b ys) more rest here there is =
+    let p = parts IsU32 le32 one_le32 a b _ _ more rest here.0 there.0 (ap (λ (l : List ℕ). drop 1 l) is) in
+    let q = one_keys xs ys more rest here.1 there.1 p.1 in
+    (ap (λ (n : ℕ). ends.Rejected n xs) p.0 ∙ ap (λ (k : List (List ℕ)). ends.Rejected b k) q.0, q.1)
+one_end (ends.Unknown a) (ends.Unknown b) more rest here there is =
+    let p = one_keys a b more rest here there (ap (λ (l : List ℕ). drop 1 l) is) in
+    (ap (λ (k : List (List ℕ)). ends.Unknown k) p.0, p.1)
+one_end ends.TooMany ends.TooMany more rest here there is = (refl, ap (λ (l : List ℕ). drop 1 l) is)
+one_end (ends.Rejected a xs) (ends.Unknown b) more rest here there is = absurd (cc is)
+one_end (ends.Rejected a xs) ends.TooMany more rest here there is = absurd (cc is)
+one_end (ends.Unknown a) (ends.Rejected b ys) more rest here there is = absurd (cc is)
+one_end (ends.Unknown a) ends.TooMany more rest here there is = absurd (cc is)
+one_end ends.TooMany (ends.Rejected b ys) more rest here there is = absurd (cc is)
+one_end ends.TooMany (ends.Unknown b) more rest here there is = absurd (cc is)
+
+same_release : (a b : Release) → a.texts ≡ b.texts → a.items ≡ b.items → a.holds ≡ b.holds → a.ends ≡ b.ends → a ≡ b
+same_release a b texts items holds ends =
+    ap (λ (x : List (List ℕ)). record { texts = x; items = a.items; holds = a.holds; ends = a.ends }) texts
+    ∙ ap (λ (x : List Item). record { texts = b.texts; items = x; holds = a.holds; ends = a.ends }) items
+    ∙ ap (λ (x : List Hold). record { texts = b.texts; items = b.items; holds = x; ends = a.ends }) holds
+    ∙ ap (λ (x : List End). record { texts = b.texts; items = b.items; holds = b.holds; ends = x }) ends
 
 pub one_release : OneForm IsRelease form_release
 one_release a b more rest here there is =
     let p = parts (IsListOf IsBytes) (form_all form_bytes) (one_list IsBytes form_bytes one_bytes) a.texts b.texts _ _ more rest here.texts there.texts is in
     let q = parts (IsListOf IsItem) (form_all form_item) (one_list IsItem form_item one_item) a.items b.items _ _ more rest here.items there.items p.1 in
-    let r = split 8 (le32 0 ++ le32 0) (le32 0 ++ le32 0) more rest zeros zeros q.1 in
-    (ap (λ (x : List (List ℕ)). record { texts = x; items = a.items }) p.0 ∙ ap (λ (x : List Item). record { texts = b.texts; items = x }) q.0, r.1)
+    let r = parts (IsListOf IsHold) (form_all form_hold) (one_list IsHold form_hold one_hold) a.holds b.holds _ _ more rest here.holds there.holds q.1 in
+    let s = one_list IsEnd form_end one_end a.ends b.ends more rest here.ends there.ends r.1 in
+    (same_release a b p.0 q.0 r.0 s.0, s.1)
 
 same_submission : (a b : Submitted) → a.origin ≡ b.origin → a.reverse ≡ b.reverse → a.recipients ≡ b.recipients → a.bytes ≡ b.bytes → a ≡ b
 same_submission a b origin reverse recipients bytes =

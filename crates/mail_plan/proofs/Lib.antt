@@ -5,3 +5,5 @@ mod Parts
 mod Made
 mod ByKind
 pub mod Printable
+mod Chains
+mod Once

@@ -11,6 +11,9 @@ use Rattle.mail_plan.specs.Submission.{Submitted, submission_of}
 use Rattle.mail_plan.specs.declared.submission.Origin.{Origin}
 use Rattle.mail_plan.specs.declared.submission.Origin.TheVariants as origins
 use Rattle.mail_plan.specs.declared.release.Item.{Item}
+use Rattle.mail_plan.specs.declared.release.Hold.{Hold}
+use Rattle.mail_plan.specs.declared.release.End.{End}
+use Rattle.mail_plan.specs.declared.release.End.TheVariants as ends
 use Rattle.mail_plan.specs.declared.release.Release.{Release}
 use Rattle.mail_plan.specs.declared.entry.Entry.{Entry}
 use Rattle.mail_plan.specs.declared.entry.Entry.TheVariants as entries
@@ -53,9 +56,24 @@ pub record IsItem (item : Item) : Type 0 where
   pub why : IsWhy item.why
   pub text : IsU32 item.text
 
+pub record IsHold (hold : Hold) : Type 0 where
+  pub gate : IsGate hold.gate
+  pub label : IsBytes hold.label
+  pub moderators : IsListOf IsKey hold.moderators
+
+abbrev pub IsRejected : ℕ × List (List ℕ) → Type 0
+IsRejected rejected = IsU32 rejected.0 × IsListOf IsKey rejected.1
+
+abbrev pub IsEnd : End → Type 0
+IsEnd (ends.Rejected rule keys) = IsRejected (rule, keys)
+IsEnd (ends.Unknown keys) = IsListOf IsKey keys
+IsEnd ends.TooMany = ⊤
+
 pub record IsRelease (release : Release) : Type 0 where
   pub texts : IsListOf IsBytes release.texts
   pub items : IsListOf IsItem release.items
+  pub holds : IsListOf IsHold release.holds
+  pub ends : IsListOf IsEnd release.ends
 
 abbrev pub IsOrigin : Origin → Type 0
 IsOrigin origins.Smtp = ⊤

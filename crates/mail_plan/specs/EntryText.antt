@@ -9,12 +9,17 @@ use Rattle.mail_names.specs.declared.name.Mark.{Mark}
 use Rattle.mail_names.specs.declared.name.Mark.TheVariants as marks
 use Rattle.journal_report.specs.declared.why.Why.{Why}
 use Rattle.journal_report.specs.declared.why.Why.TheVariants as whys
+use Rattle.org_directory.specs.declared.object.Tell.{Tell}
+use Rattle.org_directory.specs.declared.object.Tell.TheVariants as tells
 use Rattle.mail_plan.specs.Submission.{Submitted}
 use Rattle.mail_plan.specs.declared.submission.Origin.{Origin}
 use Rattle.mail_plan.specs.declared.submission.Origin.TheVariants as origins
 use Rattle.mail_plan.specs.declared.release.Item.{Item}
 use Rattle.mail_plan.specs.declared.release.ItemKind.{ItemKind}
 use Rattle.mail_plan.specs.declared.release.ItemKind.TheVariants as kinds
+use Rattle.mail_plan.specs.declared.release.Hold.{Hold}
+use Rattle.mail_plan.specs.declared.release.End.{End}
+use Rattle.mail_plan.specs.declared.release.End.TheVariants as ends
 use Rattle.mail_plan.specs.declared.release.Release.{Release}
 use Rattle.mail_plan.specs.declared.entry.Entry.{Entry}
 use Rattle.mail_plan.specs.declared.entry.Entry.TheVariants as entries
@@ -75,9 +80,30 @@ abbrev pub form_item : Item → List ℕ
 form_item item =
     form_name item.name ++ (form_bytes item.folder ++ (form_kind item.kind ++ (form_why item.why ++ le32 item.text)))
 
--- a release: its texts, its items, no holds and no ends
+abbrev pub form_tell : Tell → List ℕ
+form_tell tells.Always = 0 ∷ []
+form_tell tells.Internal = 1 ∷ []
+form_tell tells.Never = 2 ∷ []
+
+-- a hold: its gate, its label, its moderators, whom it tells
+abbrev pub form_hold : Hold → List ℕ
+form_hold hold = form_gate hold.gate ++ (form_bytes hold.label ++ (form_all form_bytes hold.moderators ++ form_tell hold.tell))
+
+-- a rule, and the keys that it rejected
+abbrev pub form_rejected : ℕ × List (List ℕ) → List ℕ
+form_rejected rejected = le32 rejected.0 ++ form_all form_bytes rejected.1
+
+-- an end: 0, u32 rule and the keys, 1 and the keys, or 2
+abbrev pub form_end : End → List ℕ
+form_end (ends.Rejected rule keys) = 0 ∷ form_rejected (rule, keys)
+form_end (ends.Unknown keys) = 1 ∷ form_all form_bytes keys
+form_end ends.TooMany = 2 ∷ []
+
+-- a release: its texts, its items, its holds, its ends
 abbrev pub form_release : Release → List ℕ
-form_release release = form_all form_bytes release.texts ++ (form_all form_item release.items ++ (le32 0 ++ le32 0))
+form_release release =
+    form_all form_bytes release.texts
+    ++ (form_all form_item release.items ++ (form_all form_hold release.holds ++ form_all form_end release.ends))
 
 -- an origin: 0 for SMTP, or 1 and the mark
 abbrev pub form_origin : Origin → List ℕ

@@ -1,5 +1,6 @@
-pub mod Submission
-pub mod EntryText
 pub mod Base
 pub mod Entries
+pub mod EntryText
+pub mod Planning
 pub mod Reading
+pub mod Submission

@@ -8,7 +8,7 @@ ghost use Rattle.mail_plan.specs.Entries.{IsBytes, IsKeyOption, IsListOf, IsName
 ghost use Rattle.mail_plan.specs.Reading.{Reads, OneForm};
 ghost use Rattle.mail_plan.specs.Submission.{Submitted, submission_of};
 
-use crate::places::{Miss, byte_at, expect_at, slice_at, u32_at, u64_at};
+use crate::places::{Miss, byte_at, slice_at, u32_at, u64_at};
 use crate::{Item, ItemKind, Origin, Release, Submission, SubmissionFault};
 use journal_report::Why;
 use mail_names::{ApprovalName, Bytes, Gate, ItemName, Items, Key, Mark, NameFault};
@@ -270,14 +270,20 @@ pub fn list_at<F: Field>(alloc: Global, bytes: &[u8], at: usize) -> Result<(Item
     Ok((values, end))
 }
 
-// A release with no holds and no ends.
 pub fn release_at(alloc: Global, bytes: &[u8], at: usize) -> Result<(Release, usize), Miss>
     ensures { Reads IsRelease form_release bytes.now at result }
 {
     let (texts, at_items) = list_at(alloc, bytes, at)?;
     let (items, at_holds) = list_at(alloc, bytes, at_items)?;
-    let end = expect_at(bytes, at_holds, &[0; 8])?;
-    Ok((Release { texts, items }, end))
+    let (holds, at_ends) = list_at(alloc, bytes, at_holds)?;
+    let (ends, end) = list_at(alloc, bytes, at_ends)?;
+    let release = Release {
+        texts,
+        items,
+        holds,
+        ends,
+    };
+    Ok((release, end))
 }
 
 // The submission of these parts.

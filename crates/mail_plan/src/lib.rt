@@ -4,21 +4,29 @@
 mod base;
 mod entry;
 mod fields;
+mod form;
+mod holds;
+mod input;
 mod intake;
-mod laws;
+pub mod laws;
+mod outcome;
 mod places;
+mod planner;
 mod read;
 mod release;
 mod submission;
 mod text;
 
 pub use entry::Entry;
+pub use input::ReleaseInput;
 pub use intake::{Accepted, Intake, IntakeFault, IntakeStep};
+pub use outcome::{Outcome, Task, plan};
+pub use planner::{OrgFault, Planner};
 pub use read::{
     get_approval_name, get_bytes, get_gate, get_item_name, get_key, get_key_option, get_keys,
     get_origin, get_release, get_why,
 };
-pub use release::{Item, ItemKind, Release};
+pub use release::{End, Hold, Item, ItemKind, Release};
 pub use submission::{Origin, Submission, SubmissionFault};
 pub use text::{
     put_approval_name, put_bytes, put_gate, put_item_name, put_key, put_key_option, put_keys,

@@ -104,7 +104,7 @@ pub fn get_why(alloc: Global, bytes: &[u8], at: usize) -> Result<Option<(Why, us
     found(why_at(alloc, bytes, at))
 }
 
-/// The release that stands at a place: its texts and its items, with no holds and no ends, and the place behind it. None where there is none.
+/// The release that stands at a place: its texts, its items, its holds and its ends, and the place behind it. None where there is none.
 pub fn get_release(
     alloc: Global,
     bytes: &[u8],

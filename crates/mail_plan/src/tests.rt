@@ -51,7 +51,12 @@ fn release(alloc: Global) -> Result<Release, Fail> {
         },
         text: 0,
     })?;
-    Ok(Release { texts, items })
+    Ok(Release {
+        texts,
+        items,
+        holds: Items::new(alloc),
+        ends: Items::new(alloc),
+    })
 }
 
 #[test]

@@ -2,12 +2,13 @@
 ghost use Rattle.std.specs.Prelude.{◌≡◌, ◌++◌, OnOk, IfOk, option_copied};
 ghost use Rattle.mail_names.specs.Key.{IsKey};
 ghost use Rattle.mail_names.specs.Names.{IsApprovalName};
-ghost use Rattle.mail_plan.specs.Entries.{IsU32, IsBytes, IsKeyOption, IsListOf, IsName, IsGate, IsWhy, IsItem, IsRelease, IsOrigin, IsSubmission, IsEntry};
-ghost use Rattle.mail_plan.specs.EntryText.{le32, le64, form_bytes, form_key_option, form_all, form_mark, form_name, form_approval, form_gate, form_kind, form_why, form_item, form_release, form_origin, form_submission, entry_text};
+ghost use Rattle.mail_plan.specs.Entries.{IsU32, IsBytes, IsKeyOption, IsListOf, IsName, IsGate, IsWhy, IsItem, IsHold, IsEnd, IsRelease, IsOrigin, IsSubmission, IsEntry};
+ghost use Rattle.mail_plan.specs.EntryText.{le32, le64, form_bytes, form_key_option, form_all, form_mark, form_name, form_approval, form_gate, form_kind, form_why, form_item, form_tell, form_hold, form_end, form_release, form_origin, form_submission, entry_text};
 
-use crate::{Entry, Item, ItemKind, Origin, Release, Submission};
+use crate::{End, Entry, Hold, Item, ItemKind, Origin, Release, Submission};
 use journal_report::Why;
 use mail_names::{ApprovalName, Bytes, Gate, ItemName, Key, Mark, NoMemory};
+use org_directory::Tell;
 use std::alloc::Global;
 
 #[tactic(auto, unfolding(crate::specs::EntryText::le64))]
@@ -213,15 +214,75 @@ fn put_items(into: &mut Bytes, values: &[Item]) -> Result<(), NoMemory>
     Ok(())
 }
 
-/// Appends a release: its texts and its items, with no holds and no ends.
+fn put_tell(into: &mut Bytes, value: Tell) -> Result<(), NoMemory>
+    ensures { OnOk result (into.new ≡ into.old ++ form_tell value) }
+{
+    match value {
+        Tell::Always => into.add(&[0]),
+        Tell::Internal => into.add(&[1]),
+        Tell::Never => into.add(&[2]),
+    }
+}
+
+fn put_hold(into: &mut Bytes, value: &Hold) -> Result<(), NoMemory>
+    ensures text { OnOk result (into.new ≡ into.old ++ form_hold value.now) }
+    ensures fits { OnOk result (IsHold value.now) }
+{
+    put_gate(into, &value.gate)?;
+    put_bytes(into, &value.label)?;
+    put_keys(into, value.moderators.as_slice())?;
+    put_tell(into, value.tell)
+}
+
+fn put_end(into: &mut Bytes, value: &End) -> Result<(), NoMemory>
+    ensures text { OnOk result (into.new ≡ into.old ++ form_end value.now) }
+    ensures fits { OnOk result (IsEnd value.now) }
+{
+    match value {
+        End::Rejected { rule, keys } => {
+            into.add(&[0])?;
+            put_u32(into, *rule)?;
+            put_keys(into, keys.as_slice())
+        }
+        End::Unknown { keys } => {
+            into.add(&[1])?;
+            put_keys(into, keys.as_slice())
+        }
+        End::TooMany => into.add(&[2]),
+    }
+}
+
+fn put_holds(into: &mut Bytes, values: &[Hold]) -> Result<(), NoMemory>
+    ensures text { OnOk result (into.new ≡ into.old ++ form_all form_hold values.now) }
+    ensures fits { OnOk result (IsListOf IsHold values.now) }
+{
+    put_count(into, values.len())?;
+    for value in values {
+        put_hold(into, value)?;
+    }
+    Ok(())
+}
+
+fn put_ends(into: &mut Bytes, values: &[End]) -> Result<(), NoMemory>
+    ensures text { OnOk result (into.new ≡ into.old ++ form_all form_end values.now) }
+    ensures fits { OnOk result (IsListOf IsEnd values.now) }
+{
+    put_count(into, values.len())?;
+    for value in values {
+        put_end(into, value)?;
+    }
+    Ok(())
+}
+
+/// Appends a release: its texts, its items, its holds and its ends.
 pub fn put_release(into: &mut Bytes, value: &Release) -> Result<(), NoMemory>
     ensures text { OnOk result (into.new ≡ into.old ++ form_release value.now) }
     ensures fits { OnOk result (IsRelease value.now) }
 {
     put_texts(into, value.texts.as_slice())?;
     put_items(into, value.items.as_slice())?;
-    put_u32(into, 0)?;
-    put_u32(into, 0)
+    put_holds(into, value.holds.as_slice())?;
+    put_ends(into, value.ends.as_slice())
 }
 
 fn put_reverse(into: &mut Bytes, value: Option<&Key>) -> Result<(), NoMemory>

@@ -1,0 +1,132 @@
+-- What a planner is asked for, and the form of what it gives.
+use Rattle.std.specs.Prelude.{◌≡◌, ℕ, zero, suc, ◌+◌, ◌==◌, ◌&&◌, not, nat_lt, nat_le, Bool, true, false, if◌then◌else◌, List, [], ◌∷◌, ◌++◌, length, map, take, bytes_eq, Option, Some, None, Result, Ok, Err}
+use Rattle.std.specs.List.{list_any}
+use Rattle.mail_names.specs.declared.gate.Gate.{Gate}
+use Rattle.mail_names.specs.declared.gate.Gate.TheVariants as gates
+use Rattle.mail_names.specs.declared.name.ItemName.{ItemName}
+use Rattle.mail_names.specs.declared.name.Mark.{Mark}
+use Rattle.mail_names.specs.declared.name.Mark.TheVariants as marks
+use Rattle.mail_plan.specs.Submission.{Submitted}
+use Rattle.mail_plan.specs.declared.planner.OrgFault.{OrgFault}
+use Rattle.mail_plan.specs.declared.planner.OrgFault.TheVariants as faults
+use Rattle.mail_plan.specs.declared.release.Hold.{Hold}
+use Rattle.mail_plan.specs.declared.release.Item.{Item}
+use Rattle.mail_plan.specs.declared.release.ItemKind.{ItemKind}
+use Rattle.mail_plan.specs.declared.release.ItemKind.TheVariants as kinds
+use Rattle.mail_plan.specs.declared.release.Release.{Release}
+
+-- what a release is made from: the submission, the organisation's epoch, the moments of acceptance and of this release, and
+-- the gates that were opened before it, if it isn't the first, and that are opened with it
+pub record Input : Type 0 where
+  pub number : ℕ
+  pub release : ℕ
+  pub epoch : ℕ
+  pub accepted_at : ℕ
+  pub made : ℕ
+  pub before : Option (List Gate)
+  pub opened : List Gate
+  pub submission : Submitted
+
+-- What a reading answers is what the texts read to, unless memory ran out.
+abbrev pub Gives : {Org : Type 0} → Result Org OrgFault → Result Org OrgFault → Type 0
+Gives (Ok org) read = read ≡ Ok org
+Gives (Err (faults.Directory number row)) read = read ≡ Err (faults.Directory number row)
+Gives (Err (faults.Rules number rule)) read = read ≡ Err (faults.Rules number rule)
+Gives (Err faults.NoMemory) read = Unit {0}
+
+abbrev pub same_gate : Gate → Gate → Bool
+same_gate (gates.Object key) (gates.Object other) = bytes_eq key other
+same_gate (gates.Object key) (gates.Rule place) = false
+same_gate (gates.Rule place) (gates.Object key) = false
+same_gate (gates.Rule place) (gates.Rule other) = place == other
+
+abbrev pub is_gate_among : Gate → List Gate → Bool
+is_gate_among gate gates = list_any (same_gate gate) gates
+
+abbrev pub are_distinct_gates : List Gate → Bool
+are_distinct_gates [] = true
+are_distinct_gates (gate ∷ gates) = not (is_gate_among gate gates) && are_distinct_gates gates
+
+abbrev pub gates_of : List Hold → List Gate
+gates_of holds = map (λ (hold : Hold). hold.gate) holds
+
+abbrev pub is_among : List ℕ → List (List ℕ) → Bool
+is_among key keys = list_any (bytes_eq key) keys
+
+-- none stands twice
+abbrev pub are_distinct : List (List ℕ) → Bool
+are_distinct [] = true
+are_distinct (key ∷ keys) = not (is_among key keys) && are_distinct keys
+
+abbrev pub is_plain : Mark → Bool
+is_plain marks.Plain = true
+is_plain marks.Gate = false
+is_plain marks.Delay = false
+is_plain marks.Failure = false
+
+-- the name of the item at a place of a release
+abbrev pub is_at : ℕ → ℕ → ℕ → ItemName → Bool
+is_at number release place name =
+    (name.submission == number) && ((name.release == release) && ((name.place == place) && is_plain name.mark))
+
+-- the items are named in order, from this place on
+abbrev pub are_named : ℕ → ℕ → ℕ → List Item → Bool
+are_named number release place [] = true
+are_named number release place (item ∷ items) = is_at number release place item.name && are_named number release (place + 1) items
+
+-- Texts are numbered in the order of their first use, behind so many, and each of `count` texts is used.
+abbrev pub use_texts : ℕ → ℕ → List Item → Bool
+use_texts used count [] = used == count
+use_texts used count (item ∷ items) =
+    if nat_lt item.text used then use_texts used count items
+    else ((item.text == used) && use_texts (used + 1) count items)
+
+-- each hold has 1 to 10 moderators
+abbrev pub have_moderators : List Hold → Bool
+have_moderators [] = true
+have_moderators (hold ∷ holds) =
+    nat_le 1 (length hold.moderators) && (nat_le (length hold.moderators) 10 && have_moderators holds)
+
+-- the form of a release: items named in order, distinct texts in the order of first use, none without a use, and holds
+-- with moderators
+abbrev pub is_release : ℕ → ℕ → Release → Bool
+is_release number release plan =
+    are_named number release 0 plan.items
+    && (use_texts 0 (length plan.texts) plan.items && (are_distinct plan.texts && have_moderators plan.holds))
+
+abbrev pub is_version : ItemKind → Bool
+is_version kinds.Version = true
+is_version kinds.Report = false
+is_version kinds.Request = false
+is_version kinds.Notice = false
+
+-- the targets of versions, in order
+abbrev pub targets : List Item → List (List ℕ)
+targets [] = []
+targets (item ∷ items) = if is_version item.kind then item.folder ∷ targets items else targets items
+
+-- One submission; all that was opened with the earlier release was opened before the later one.
+pub record Continues (earlier later : Input) : Type 0 where
+  pub number : later.number ≡ earlier.number
+  pub epoch : later.epoch ≡ earlier.epoch
+  pub accepted_at : later.accepted_at ≡ earlier.accepted_at
+  pub submission : later.submission ≡ earlier.submission
+  pub more : List Gate
+  pub opened : later.before ≡ Some (earlier.opened ++ more)
+  pub rest : List Gate
+  pub goes_on : later.opened ≡ (earlier.opened ++ more) ++ rest
+
+-- the gates that were opened before this release, where these are approved in order
+abbrev pub before_at : List Gate → ℕ → Option (List Gate)
+before_at approved zero = None
+before_at approved (suc release) = Some (take release approved)
+
+-- the input of this release of a submission
+abbrev pub input_at : Input → List Gate → ℕ → Input
+input_at base approved release = record base { release = release; before = before_at approved release; opened = take release approved }
+
+-- the targets of the first releases, so many
+abbrev pub all_targets : (Input → Release) → Input → List Gate → ℕ → List (List ℕ)
+all_targets release_of base approved zero = []
+all_targets release_of base approved (suc release) =
+    all_targets release_of base approved release ++ targets (release_of (input_at base approved release)).items

@@ -1,0 +1,77 @@
+// What makes releases.
+use crate::{Release, ReleaseInput};
+use mail_names::{Key, NoMemory};
+use std::alloc::Global;
+
+/// Why two texts are no organisation. The numbers are those of the faults of a directory and of a rule book; `rule` is 0
+/// where the fault names none.
+#[derive(Clone, Copy, Debug, PartialEq, Eq)]
+pub enum OrgFault {
+    Directory { number: u8, row: u32 },
+    Rules { number: u8, rule: u32 },
+    NoMemory,
+}
+
+/// Reads organisations, and makes the releases of submissions by them.
+pub trait Planner {
+    ghost use Rattle.std.specs.Prelude.{◌≡◌, ℕ, Bool, true, false, List, Result, Ok, IfOk};
+    ghost use Rattle.mail_names.specs.declared.gate.Gate.{Gate};
+    ghost use Rattle.mail_plan.specs.Planning.{Input, Gives, Continues, is_release, are_distinct, are_distinct_gates, is_among, is_gate_among, targets, gates_of};
+    ghost use Rattle.mail_plan.specs.declared.planner.OrgFault.{OrgFault};
+    ghost use Rattle.mail_plan.specs.declared.release.Release.{Release};
+
+    /// An organisation that was read.
+    type Org: Drop;
+
+    /// What the texts of a directory and of rules read to.
+    ghost reads: { List ℕ → List ℕ → Result Self.Org OrgFault };
+
+    ghost directory_of: { Self.Org → List ℕ };
+
+    ghost rules_of: { Self.Org → List ℕ };
+
+    /// The release of an input.
+    ghost release_of: { Self.Org → Input → Release };
+
+    /// The key's domain is accepted.
+    ghost inside: { Self.Org → List ℕ → Bool };
+
+    /// The organisation of two texts, or their first fault.
+    fn read_org(alloc: Global, directory: &[u8], rules: &[u8]) -> Result<Self::Org, OrgFault>
+        ensures { Gives result (reads directory.now rules.now) };
+
+    /// The release that the organisation prescribes for an input.
+    fn release(alloc: Global, org: &Self::Org, input: &ReleaseInput) -> Result<Release, NoMemory>
+        ensures { IfOk result (λ release. release ≡ release_of org.now input.now) };
+
+    /// The texts that the organisation was read from: of its directory, and of its rules. It takes no memory.
+    fn texts(org: &Self::Org) -> (&[u8], &[u8])
+        ensures directory { result.0.now ≡ directory_of org.now }
+        ensures rules { result.1.now ≡ rules_of org.now };
+
+    /// Whether the key's domain is accepted. It takes no memory.
+    fn is_inside(org: &Self::Org, key: &Key) -> bool
+        ensures { result ≡ inside org.now key.now };
+
+    /// An organisation has the texts that it was read from.
+    ghost own_texts: { (org : Self.Org) (directory rules : List ℕ) → reads directory rules ≡ Ok org →
+        (directory_of org ≡ directory) × (rules_of org ≡ rules) };
+
+    /// A release has the form of one.
+    ghost lawful: { (org : Self.Org) (input : Input) → reads (directory_of org) (rules_of org) ≡ Ok org →
+        is_release input.number input.release (release_of org input) ≡ true };
+
+    /// No two versions of a release have one target.
+    ghost targets_once: { (org : Self.Org) (input : Input) → are_distinct (targets (release_of org input).items) ≡ true };
+
+    /// No two holds of a release have one gate.
+    ghost gates_once: { (org : Self.Org) (input : Input) → are_distinct_gates (gates_of (release_of org input).holds) ≡ true };
+
+    /// What a release sent to, no later one sends to.
+    ghost sent_once: { (org : Self.Org) (earlier later : Input) → Continues earlier later → (target : List ℕ) →
+        is_among target (targets (release_of org earlier).items) ≡ true → is_among target (targets (release_of org later).items) ≡ false };
+
+    /// A gate that a release met, no later one meets.
+    ghost met_once: { (org : Self.Org) (earlier later : Input) → Continues earlier later → (gate : Gate) →
+        is_gate_among gate (gates_of (release_of org earlier).holds) ≡ true → is_gate_among gate (gates_of (release_of org later).holds) ≡ false };
+}
