@@ -1,0 +1,10 @@
+pub mod Books
+pub mod Differing
+pub mod Expanding
+pub mod Growing
+pub mod Holding
+pub mod Keeping
+pub mod Lists
+pub mod Meeting
+pub mod Naming
+pub mod Reading

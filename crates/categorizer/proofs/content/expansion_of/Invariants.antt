@@ -1,0 +1,5 @@
+-- The ledger that the blank opens.
+use Rattle.categorizer.proofs.content.expansion_of.Given as goal
+
+abbrev pub ghosts-expanded : goal.ghosts-expanded
+ghosts-expanded a = record { name = a.blank.name; parts = a.blank.parts }

@@ -1,0 +1,5 @@
+use Rattle.std.proofs.Common.{◌≡◌, ◌++◌, ◌==◌, ℕ, List, drop, map, filter, fold}
+use Rattle.categorizer.proofs.copies.copied_sends.Given as goal
+
+abbrev pub invariant-loop-send : goal.invariant-loop-send
+invariant-loop-send l = l.copied ++ drop l.send-index l.sends ≡ l.sends

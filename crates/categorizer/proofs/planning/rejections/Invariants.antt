@@ -1,0 +1,6 @@
+use Rattle.std.proofs.Common.{◌≡◌, ◌++◌, ◌==◌, ℕ, List, drop, map, filter, fold}
+use Rattle.categorizer.specs.Plan.{rejections}
+use Rattle.categorizer.proofs.planning.rejections.Given as goal
+
+abbrev pub invariant-loop-one : goal.invariant-loop-one
+invariant-loop-one l = l.refused ++ rejections (drop l.one-index l.all) ≡ rejections l.all

@@ -1,0 +1,5 @@
+pub mod Base
+pub mod Growth
+pub mod Organisation
+pub mod Plan
+pub mod Releasing
