@@ -1,11 +1,15 @@
 -- What a check of an organisation's text says.
-use Rattle.std.specs.Prelude.{◌≡◌, ⊤, ℕ, nat_lt, Bool, true, false, List, [], ◌∷◌, ◌++◌, length, codes, decimal, Option, Result, Ok, Err}
+use Rattle.std.specs.Prelude.{◌≡◌, ⊤, ℕ, Bool, true, false, List, [], ◌∷◌, ◌++◌, length, codes, decimal, Option, Result, Ok, Err}
 use Rattle.std.specs.Io.KnownBytes.{Appends, Consumes, IsAtEnd}
 use Rattle.port_io.specs.Told.{AppendsPrefix}
 use Rattle.org_directory.specs.Register.{Register}
 use Rattle.org_directory.specs.Reading.{register_of}
 use Rattle.org_directory.specs.declared.fault.DirectoryFault.{DirectoryFault}
 use Rattle.org_directory.specs.declared.fault.DirectoryFault.TheVariants as faults
+use Rattle.rule_terms.specs.Forms.{Book}
+use Rattle.rule_terms.specs.Reading.{book_of}
+use Rattle.rule_terms.specs.declared.fault.RuleFault.{RuleFault}
+use Rattle.rule_terms.specs.declared.fault.RuleFault.TheVariants as rule_faults
 use Rattle.org_check.specs.declared.checking.CheckEnd.{CheckEnd}
 use Rattle.org_check.specs.declared.checking.CheckEnd.TheVariants as ends
 use Rattle.org_check.specs.declared.read.ReadEnd.{ReadEnd}
@@ -17,27 +21,40 @@ pub record Verdict : Type 0 where
   pub line : List ℕ
   pub passes : Bool
 
--- fault F at record R
-abbrev pub fault_line : ℕ → ℕ → List ℕ
-fault_line number row = codes "directory fault " ++ (decimal number ++ (codes " at " ++ (decimal row ++ 10 ∷ [])))
+-- fault F at R, which is a record of the directory or a rule
+abbrev pub fault_line : List ℕ → ℕ → ℕ → List ℕ
+fault_line words number place = words ++ (decimal number ++ (codes " at " ++ (decimal place ++ 10 ∷ [])))
 
-abbrev pub fault_text : DirectoryFault → List ℕ
-fault_text (faults.BadRow row) = fault_line 1 row
-fault_text (faults.DoubleKey row) = fault_line 2 row
-fault_text (faults.UnknownMember row) = fault_line 3 row
-fault_text (faults.NoModerators row) = fault_line 4 row
-fault_text (faults.TooMany row) = fault_line 5 row
-fault_text faults.NoMemory = []
+abbrev pub directory_fault : DirectoryFault → List ℕ
+directory_fault (faults.BadRow row) = fault_line (codes "directory fault ") 1 row
+directory_fault (faults.DoubleKey row) = fault_line (codes "directory fault ") 2 row
+directory_fault (faults.UnknownMember row) = fault_line (codes "directory fault ") 3 row
+directory_fault (faults.NoModerators row) = fault_line (codes "directory fault ") 4 row
+directory_fault (faults.TooMany row) = fault_line (codes "directory fault ") 5 row
+directory_fault faults.NoMemory = []
 
--- Rules aren't read yet, so there may be none.
-abbrev pub by_rules : Bool → Verdict
-by_rules true = record { line = codes "rules not built" ++ 10 ∷ []; passes = false }
-by_rules false = record { line = codes "ok" ++ 10 ∷ []; passes = true }
+-- A fault that names no rule stands at 0.
+abbrev pub rules_fault : RuleFault → List ℕ
+rules_fault rule_faults.NotToml = fault_line (codes "rules fault ") 1 0
+rules_fault (rule_faults.BadTerm rule) = fault_line (codes "rules fault ") 2 rule
+rules_fault (rule_faults.BadAction rule) = fault_line (codes "rules fault ") 3 rule
+rules_fault (rule_faults.UnknownKey rule) = fault_line (codes "rules fault ") 4 rule
+rules_fault (rule_faults.BadCode rule) = fault_line (codes "rules fault ") 5 rule
+rules_fault (rule_faults.BadDate rule) = fault_line (codes "rules fault ") 6 rule
+rules_fault rule_faults.TooMany = fault_line (codes "rules fault ") 7 0
+rules_fault rule_faults.NoMemory = []
 
--- The directory is judged first.
+abbrev pub refused : List ℕ → Verdict
+refused line = record { line = line; passes = false }
+
+abbrev pub by_rules : Result Book RuleFault → Verdict
+by_rules (Ok book) = record { line = codes "ok" ++ 10 ∷ []; passes = true }
+by_rules (Err fault) = refused (rules_fault fault)
+
+-- The directory is judged first, and then the rules over it.
 abbrev pub judged : Result Register DirectoryFault → List ℕ → Verdict
-judged (Err fault) rules = record { line = fault_text fault; passes = false }
-judged (Ok directory) rules = by_rules (nat_lt 0 (length rules))
+judged (Err fault) rules = refused (directory_fault fault)
+judged (Ok directory) rules = by_rules (book_of rules directory)
 
 abbrev pub verdict_of : List ℕ → Verdict
 verdict_of text = judged (register_of (directory_text text)) (rules_text text)
