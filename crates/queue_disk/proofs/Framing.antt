@@ -1,5 +1,5 @@
 -- What is written of an entry behind the closed gate.
-use Rattle.std.proofs.Common.{◌≡◌, ◌⊎◌, ℕ, ◌+◌, List, [], ◌∷◌, ◌++◌, length, ◌∙◌, subst, arith, length-append}
+use Rattle.std.proofs.Common.{◌≡◌, ◌⊎◌, ℕ, ◌+◌, List, [], ◌∷◌, ◌++◌, length, arith, length-append}
 use Rattle.plant_dev.specs.Disk.{State, OnFile, LeavesOnly, From}
 use Rattle.plant_dev.proofs.Moments.{weakens}
 use Rattle.mail_plan.specs.declared.entry.Entry.{Entry}

@@ -1,5 +1,5 @@
 -- A log is read entry by entry, to its closed gate.
-use Rattle.std.proofs.Common.{◌≡◌, ◌≢◌, inl, inr, ℕ, ◌+◌, ◌<◌, ◌^◌, List, [], ◌∷◌, ◌++◌, length, take, drop, Option, Some, None, Result, Ok, Err, refl, sym, ◌∙◌, ap, subst, arith, append_assoc, length-append, length-drop}
+use Rattle.std.proofs.Common.{◌≡◌, ◌≢◌, inl, inr, ℕ, ◌+◌, ◌<◌, ◌^◌, List, [], ◌∷◌, ◌++◌, length, take, drop, Option, Result, Ok, Err, refl, sym, ◌∙◌, ap, subst, arith, append_assoc, length-append, length-drop}
 use Rattle.std.specs.Prelude.{◌⊎◌, IsErrAnd, IfErr}
 use Rattle.std.specs.List.{AllByRecursion}
 use Rattle.std.proofs.lemmas.List.{append-nil, take_at, drop_at, drop-drop}
@@ -11,7 +11,8 @@ use Rattle.mail_plan.proofs.Forms.{one_entry}
 use Rattle.queue_disk.specs.declared.fault.LogFault.{LogFault}
 use Rattle.queue_disk.specs.declared.fault.LogFault.TheVariants.{DiskFault, NotALog, NoMemory, LogFull}
 use Rattle.queue_disk.specs.Log.{records, payloads, log_of, LogOf}
-use Rattle.queue_disk.specs.Reading.{Recorded, ShutGate, IsBad, NoEntry, RecordAnswer, PlaceAnswer, IsRead, ReadsOn}
+use Rattle.queue_disk.specs.View.{LogView}
+use Rattle.queue_disk.specs.Reading.{Recorded, ShutGate, IsBad, NoEntry, RecordAnswer, PlaceAnswer, IsHeld, IsRead, ReadsOn}
 use Rattle.queue_disk.proofs.Entries.{length-push}
 
 -- two records that stand first in the same bytes are one
@@ -58,11 +59,11 @@ module _ (file : List ℕ) (h done : List Entry) (place gate : ℕ) (more : List
         small = omega (arith, bound, ap length whole, length-drop place file, length-append (le64 (length t)) (t ++ after), length-append t after);
       }
 
-  some : (later : List Entry) (entry : Entry) → h ≡ done ++ later → AllByRecursion IsEntry later → Rest later → IsEntry entry → Recorded (entry_text entry) (drop place file)
-      → IsRead file h (done ++ entry ∷ []) (place + 9 + length (entry_text entry))
+  some : (later : List Entry) (entry : Entry) (next : LogView) → h ≡ done ++ later → AllByRecursion IsEntry later → Rest later → IsEntry entry → Recorded (entry_text entry) (drop place file)
+      → next.place ≡ place + 9 + length (entry_text entry) → IsHeld file next → IsRead file h (done ++ entry ∷ []) next
   unfolding first_record
-  some [] entry all each text is r = let both : gate ∷ more ≡ 1 ∷ (le64 (length (entry_text entry)) ++ (entry_text entry ++ r.more)) = sym text ∙ r.text in let one : gate ≡ 1 = cc both in absurd (shut one)
-  some (x ∷ later) entry all each text is r =
+  some [] entry next all each text is r moved held = let both : gate ∷ more ≡ 1 ∷ (le64 (length (entry_text entry)) ++ (entry_text entry ++ r.more)) = sym text ∙ r.text in let one : gate ≡ 1 = cc both in absurd (shut one)
+  some (x ∷ later) entry next all each text is r moved held =
       let t = entry_text x in
       let after = records (payloads later) ++ gate ∷ more in
       let first = first_record x later text in
@@ -74,9 +75,10 @@ module _ (file : List ℕ) (h done : List Entry) (place gate : ℕ) (more : List
         more = more;
         all = all ∙ sym (append_assoc done (x ∷ []) later) ∙ ap (λ (y : Entry). (done ++ y ∷ []) ++ later) same;
         entries = each.1;
-        at = omega (arith, at, length-push done entry);
+        at = omega (arith, moved, at, length-push done entry);
+        held = held;
         text =
-            ap (λ (n : ℕ). drop n file) (let e : place + 9 + length (entry_text entry) ≡ place + (9 + length t) = omega (arith, ap length texts) in e)
+            ap (λ (n : ℕ). drop n file) (let e : next.place ≡ place + (9 + length t) = omega (arith, moved, ap length texts) in e)
             ∙ sym (drop-drop (9 + length t) place file)
             ∙ ap (λ (l : List ℕ). drop (9 + length t) l) (first.text ∙ ap (λ (l : List ℕ). 1 ∷ l) (sym (append_assoc (le64 (length t)) t first.more)))
             ∙ drop_at (1 ∷ (le64 (length t) ++ t)) first.more (9 + length t) (omega (arith, length-append (le64 (length t)) t, length-le64 (length t)));
@@ -95,34 +97,35 @@ module _ (file : List ℕ) (h done : List Entry) (place gate : ℕ) (more : List
   bad (x ∷ later) each text (inr (first, never)) = never x each.0 (first_record x later text)
 
 -- the next answer, of a log that has been read so far
-pub read_some : (file : List ℕ) (h done : List Entry) (place next : ℕ) (entry : Entry) → IsRead file h done place → IsEntry entry × Recorded (entry_text entry) (drop place file) → next ≡ place + 9 + length (entry_text entry) → IsRead file h (done ++ entry ∷ []) next
-read_some file h done place next entry r (is, rec) moved =
-    subst (λ (n : ℕ). IsRead file h (done ++ entry ∷ []) n) (sym moved) (some file h done place r.gate r.more r.at r.shut r.small r.later entry r.all r.entries r.text is rec)
+pub read_some : (file : List ℕ) (h done : List Entry) (log next : LogView) (entry : Entry) → IsRead file h done log → IsEntry entry × Recorded (entry_text entry) (drop log.place file) →
+    next.place ≡ log.place + 9 + length (entry_text entry) → IsHeld file next → IsRead file h (done ++ entry ∷ []) next
+read_some file h done log next entry r (is, rec) moved held =
+    some file h done log.place r.gate r.more r.at r.shut r.small r.later entry next r.all r.entries r.text is rec moved held
 
-pub read_none : (file : List ℕ) (h done : List Entry) (place : ℕ) → IsRead file h done place → ShutGate (drop place file) → (h ≡ done) × (place ≡ length (log_of h))
-read_none file h done place r s =
-    let all = none file h done place r.gate r.more r.at r.shut r.small r.later r.all r.text s in
+pub read_none : (file : List ℕ) (h done : List Entry) (log : LogView) → IsRead file h done log → ShutGate (drop log.place file) → (h ≡ done) × (log.place ≡ length (log_of h))
+read_none file h done log r s =
+    let all = none file h done log.place r.gate r.more r.at r.shut r.small r.later r.all r.text s in
     (all, r.at ∙ ap (λ (es : List Entry). length (log_of es)) (sym all))
 
-err_on : (file : List ℕ) (h done : List Entry) (place next : ℕ) (e : LogFault) → IsRead file h done place → PlaceAnswer (drop place file) place (Err e) → ReadsOn file h done next (Err e)
-err_on file h done place next DiskFault r answer = tt
-err_on file h done place next NoMemory r answer = tt
-err_on file h done place next (NotALog at) r answer = bad file h done place r.gate r.more r.at r.shut r.small r.later r.entries r.text answer.1
-err_on file h done place next (LogFull length) r answer = answer
+err_on : (file : List ℕ) (h done : List Entry) (log next : LogView) (e : LogFault) → IsRead file h done log → PlaceAnswer (drop log.place file) log.place (Err e) → ReadsOn file h done next (Err e)
+err_on file h done log next DiskFault r answer = tt
+err_on file h done log next NoMemory r answer = tt
+err_on file h done log next (NotALog at) r answer = bad file h done log.place r.gate r.more r.at r.shut r.small r.later r.entries r.text answer.1
+err_on file h done log next (LogFull length) r answer = answer
 
 -- a fault is none of the file
-pub read_err : (file : List ℕ) (h done : List Entry) (place next : ℕ) (e : LogFault) (result : Result (Option Entry) LogFault) → IsErrAnd result (λ f. f ≡ e) → IsRead file h done place → PlaceAnswer (drop place file) place (Err e) → ReadsOn file h done next result
-read_err file h done place next e (Ok found) same r answer = absurd same
-read_err file h done place next e (Err f) same r answer =
-    subst (λ (g : LogFault). ReadsOn file h done next (Err g)) (sym same) (err_on file h done place next e r answer)
+pub read_err : (file : List ℕ) (h done : List Entry) (log next : LogView) (e : LogFault) (result : Result (Option Entry) LogFault) → IsErrAnd result (λ f. f ≡ e) → IsRead file h done log → PlaceAnswer (drop log.place file) log.place (Err e) → ReadsOn file h done next result
+read_err file h done log next e (Ok found) same r answer = absurd same
+read_err file h done log next e (Err f) same r answer =
+    subst (λ (g : LogFault). ReadsOn file h done next (Err g)) (sym same) (err_on file h done log next e r answer)
 
-fault_on : (file : List ℕ) (h done : List Entry) (next : ℕ) (e : LogFault) → ReadsOn file h done next (Err e) → (e ≡ DiskFault) ⊎ (e ≡ NoMemory)
+fault_on : (file : List ℕ) (h done : List Entry) (next : LogView) (e : LogFault) → ReadsOn file h done next (Err e) → (e ≡ DiskFault) ⊎ (e ≡ NoMemory)
 fault_on file h done next DiskFault on = inl refl
 fault_on file h done next NoMemory on = inr refl
 fault_on file h done next (NotALog at) on = absurd on
 fault_on file h done next (LogFull length) on = absurd on
 
-pub fault_is : {T : Type 0} (file : List ℕ) (h done : List Entry) (next : ℕ) (e : LogFault) (result : Result T LogFault) → IsErrAnd result (λ f. f ≡ e) → ReadsOn file h done next (Err e) → IfErr result (λ f. (f ≡ DiskFault) ⊎ (f ≡ NoMemory))
+pub fault_is : {T : Type 0} (file : List ℕ) (h done : List Entry) (next : LogView) (e : LogFault) (result : Result T LogFault) → IsErrAnd result (λ f. f ≡ e) → ReadsOn file h done next (Err e) → IfErr result (λ f. (f ≡ DiskFault) ⊎ (f ≡ NoMemory))
 fault_is file h done next e (Ok found) same on = tt
 fault_is file h done next e (Err f) same on = subst (λ (g : LogFault). (g ≡ DiskFault) ⊎ (g ≡ NoMemory)) (sym same) (fault_on file h done next e on)
 
@@ -137,14 +140,15 @@ fault_at rest place e (Ok found) same answer = absurd same
 fault_at rest place e (Err f) same answer = subst (λ (g : LogFault). PlaceAnswer rest place (Err g)) (sym same) (place_err rest place e answer)
 
 -- before the first entry
-pub unread : (file : List ℕ) (h : List Entry) → LogOf file h → length file < 2 ^ 64 → IsRead file h [] 8
-unread file h log small = record {
+pub unread : (file : List ℕ) (h : List Entry) (most : ℕ) → LogOf file h → length file < 2 ^ 64 → IsRead file h [] (record { place = 8; gate = 8; most = most; held = [] })
+unread file h most log small = record {
   later = h;
   gate = log.text.gate;
   more = log.text.rest;
   all = refl;
   entries = log.entries;
   at = refl;
+  held = refl;
   text = ap (λ (l : List ℕ). drop 8 l) log.text.text;
   shut = log.text.shut;
   small = small;

@@ -4,9 +4,10 @@ ghost use Rattle.port_io.specs.Causes.{Rose};
 ghost use Rattle.plant_dev.specs.Disk.{Stays, Reads, OnFile, LeavesOnly, From};
 ghost use Rattle.mail_plan.specs.declared.entry.Entry.{Entry};
 ghost use Rattle.mail_plan.specs.EntryText.{le64, entry_text};
-ghost use Rattle.queue_disk.specs.Reading.{NextAnswer, IsRead, ReadsOn, Begins, ReadFault};
+ghost use Rattle.queue_disk.specs.Reading.{NextAnswer, IsHeld, IsRead, ReadsOn, Begins, ReadFault};
 ghost use Rattle.queue_disk.specs.Log.{Frames, LogOf, log_of, IsOpen, OneMore, FullAnswer};
 
+use crate::ahead::Ahead;
 use crate::fault::LogFault;
 use crate::gated::write_behind;
 use crate::read::entry_at;
@@ -17,20 +18,24 @@ use port_io::Failed;
 use std::alloc::Global;
 use std::marker::Model;
 
-/// An open log: how far it has been read, and its greatest length in octets.
+/// An open log: how far it has been read, its greatest length in octets, and what was read ahead.
 #[derive(Drop)]
 pub struct Log {
     place: u64,
     gate: u64,
     most: u64,
+    ahead: Ahead,
 }
 
 impl Model for Log {
+    ghost use Rattle.std.specs.Prelude.{◌+◌, ◌<◌, ◌^◌, length};
     ghost use Rattle.queue_disk.specs.View.{LogView};
 
     ghost Value = { LogView };
 
-    ghost view = { λ l. record { place = l.place; gate = l.gate; most = l.most } };
+    ghost view = { λ l. record { place = l.place; gate = l.gate; most = l.most; held = l.ahead } };
+
+    ghost invariant = { λ l. l.place + length l.ahead < 2 ^ 64 };
 }
 
 // What is written behind the closed gate: the payload with its length, and the next gate, closed.
@@ -60,12 +65,13 @@ impl Model for Framed {
 impl Log {
     // A log of which nothing was read.
     pub fn start(most: u64) -> Log
-        ensures { result ≡ record { place = 8; gate = 8; most = most } }
+        ensures { result ≡ record { place = 8; gate = 8; most = most; held = [] } }
     {
         Log {
             place: 8,
             gate: 8,
             most,
+            ahead: Ahead::none(),
         }
     }
 
@@ -78,8 +84,10 @@ impl Log {
 
     /// The next entry, or none at the closed gate.
     ///
-    /// `NotALog` names the gate of an open record whose length runs past the end or whose payload is no entry, or the
-    /// place of a gate that the file's end has cut off.
+    /// It reads ahead, at least 64 KiB at once where the file has them, and reads octets again only behind a fault or a
+    /// closed gate. After each fault the place is as it was, and what was read ahead may be more. `NotALog` names the
+    /// gate of an open record whose length runs past the end or whose payload is no entry, or the place of a gate that
+    /// the file's end has cut off.
     pub fn next<P: Plant>(
         &mut self,
         alloc: Global,
@@ -89,22 +97,31 @@ impl Log {
         ensures told { (P.state plant.new).told_shelf ≡ (P.state plant.old).told_shelf }
         ensures cause { IsErrOf result LogFault.DiskFault → Rose (P.state plant.old).disk_faults (P.state plant.new).disk_faults }
         ensures reads { IsTrue (P.state plant.old).honest → Reads (P.state plant.old) (P.state plant.new) }
-        ensures answer { IsTrue (P.state plant.old).honest → NextAnswer (drop self.old.place (P.state plant.old).image.file) self.old.place result }
+
+        // What is held stays what stands in the file, and then the answer is what stands there.
+        ensures held { IsTrue (P.state plant.old).honest → IsHeld (P.state plant.old).image.file self.old → IsHeld (P.state plant.old).image.file self.new }
+        ensures answer { IsTrue (P.state plant.old).honest → IsHeld (P.state plant.old).image.file self.old →
+            NextAnswer (drop self.old.place (P.state plant.old).image.file) self.old.place result }
 
         // Of a log of entries it gives each in order, and then none.
-        ensures reads_on { (h done : List Entry) → IsTrue (P.state plant.old).honest → IsRead (P.state plant.old).image.file h done self.old.place →
-            ReadsOn (P.state plant.old).image.file h done self.new.place result }
+        ensures reads_on { (h done : List Entry) → IsTrue (P.state plant.old).honest → IsRead (P.state plant.old).image.file h done self.old →
+            ReadsOn (P.state plant.old).image.file h done self.new result }
 
-        ensures moves { IfOk result (λ found. IfSome found (λ entry. self.new ≡ record self.old { place = self.old.place + 9 + length (entry_text entry); gate = self.old.place })) }
+        ensures moves { IfOk result (λ found. IfSome found (λ entry.
+            self.new ≡ record self.old { place = self.old.place + 9 + length (entry_text entry); gate = self.old.place; held = self.new.held })) }
         ensures fits { IfOk result (λ found. IfSome found (λ entry. self.new.place < 2 ^ 64)) }
-        ensures ends { IfOk result (λ found. IfNone found (self.new ≡ self.old)) }
-        ensures err { OnErr result (self.new ≡ self.old) }
+        ensures ends { IfOk result (λ found. IfNone found (self.new ≡ record self.old { held = [] })) }
+        ensures err { OnErr result (self.new ≡ record self.old { held = self.new.held }) }
     {
-        match entry_at(alloc, plant, self.place)? {
-            None => Ok(None),
-            Some((entry, end)) => {
+        match entry_at(&mut self.ahead, alloc, plant, self.place)? {
+            None => {
+                self.ahead = Ahead::none();
+                Ok(None)
+            }
+            Some((entry, size)) => {
+                self.ahead.take(size);
                 self.gate = self.place;
-                self.place = end;
+                self.place += size as u64;
                 Ok(Some(entry))
             }
         }
@@ -178,6 +195,7 @@ impl Log {
     {
         let bytes = framed.bytes.as_slice();
         write_behind(plant, self.place, bytes)?;
+        self.ahead = Ahead::none();
         self.place += bytes.len() as u64;
         Ok(())
     }
@@ -192,17 +210,17 @@ pub fn read_all<P: Plant>(
     ensures stays { Stays (P.state plant.old) (P.state plant.new) }
     ensures cause { IsErrOf result LogFault.DiskFault → Rose (P.state plant.old).disk_faults (P.state plant.new).disk_faults }
     ensures reads { IsTrue (P.state plant.old).honest → Reads (P.state plant.old) (P.state plant.new) }
-    ensures entries { (h : List Entry) → IsTrue (P.state plant.old).honest → IsRead (P.state plant.old).image.file h [] log.old.place →
+    ensures entries { (h : List Entry) → IsTrue (P.state plant.old).honest → IsRead (P.state plant.old).image.file h [] log.old →
         IfOk result (λ found. h ≡ found.items) }
-    ensures end { (h : List Entry) → IsTrue (P.state plant.old).honest → IsRead (P.state plant.old).image.file h [] log.old.place →
+    ensures end { (h : List Entry) → IsTrue (P.state plant.old).honest → IsRead (P.state plant.old).image.file h [] log.old →
         OnOk result (log.new.place ≡ length (log_of h)) }
-    ensures never { (h : List Entry) → IsTrue (P.state plant.old).honest → IsRead (P.state plant.old).image.file h [] log.old.place →
+    ensures never { (h : List Entry) → IsTrue (P.state plant.old).honest → IsRead (P.state plant.old).image.file h [] log.old →
         IfErr result (λ e. (e ≡ LogFault.DiskFault) ⊎ (e ≡ LogFault.NoMemory)) }
 
     // Of any file that begins as a log: what is read is all of a log, and what isn't is none from the place told on.
-    ensures whole { IsTrue (P.state plant.old).honest → Begins (P.state plant.old).image.file [] log.old.place →
+    ensures whole { IsTrue (P.state plant.old).honest → IsHeld (P.state plant.old).image.file log.old → Begins (P.state plant.old).image.file [] log.old.place →
         IfOk result (λ found. LogOf (P.state plant.old).image.file found.items) }
-    ensures bad { IsTrue (P.state plant.old).honest → Begins (P.state plant.old).image.file [] log.old.place →
+    ensures bad { IsTrue (P.state plant.old).honest → IsHeld (P.state plant.old).image.file log.old → Begins (P.state plant.old).image.file [] log.old.place →
         IfErr result (λ e. ReadFault (P.state plant.old).image.file e) }
 {
     let mut entries = Vec::new(alloc);

@@ -35,14 +35,14 @@ pub fn open_log<P: Plant>(plant: &mut P, most: u64) -> Result<Log, LogFault>
     ensures stays { Stays (P.state plant.old) (P.state plant.new) }
     ensures told { (P.state plant.new).told_shelf ≡ (P.state plant.old).told_shelf }
     ensures cause { IsErrOf result LogFault.DiskFault → Rose (P.state plant.old).disk_faults (P.state plant.new).disk_faults }
-    ensures at_start { IfOk result (λ log. log ≡ record { place = 8; gate = 8; most = most }) }
+    ensures at_start { IfOk result (λ log. log ≡ record { place = 8; gate = 8; most = most; held = [] }) }
     ensures refused { IsTrue (P.state plant.old).honest → IfErr result (λ e. HeadFault (P.state plant.old).image.file e) }
     ensures shelf { IsTrue (P.state plant.old).honest → (P.state plant.new).image.shelf ≡ (P.state plant.old).image.shelf }
     ensures image { IsTrue (P.state plant.old).honest → KeepsEntries (P.state plant.old).image.file (P.state plant.new).image.file }
     ensures durable { IsTrue (P.state plant.old).honest → OnOk result (Durable (P.state plant.new)) }
     ensures opened { IsTrue (P.state plant.old).honest → OnOk result (IsLog (P.state plant.old).image.file (P.state plant.new).image.file) }
     ensures stands { (h : List Entry) → IsTrue (P.state plant.old).honest → FileOf (P.state plant.old).image.file h → OnOk result (LogOf (P.state plant.new).image.file h) }
-    ensures unread { (h : List Entry) → IsTrue (P.state plant.old).honest → FileOf (P.state plant.old).image.file h → OnOk result (IsRead (P.state plant.new).image.file h [] 8) }
+    ensures unread { (h : List Entry) → IsTrue (P.state plant.old).honest → FileOf (P.state plant.old).image.file h → IfOk result (IsRead (P.state plant.new).image.file h []) }
     ensures begins { IsTrue (P.state plant.old).honest → OnOk result (Begins (P.state plant.new).image.file [] 8) }
     ensures never { (h : List Entry) → IsTrue (P.state plant.old).honest → FileOf (P.state plant.old).image.file h → IfErr result (λ e. e ≡ LogFault.DiskFault) }
     // Each image behind it comes from one whose file is the one that was read.

@@ -185,3 +185,24 @@ fn a_full_log_takes_no_more(rt: HostRuntime) -> Result<(), Fail> {
     assert_eq!(rt; refused, Some(LogFault::LogFull { length: 9 }));
     Ok(())
 }
+
+// A log of two pieces is opened by a sync, three lengths and three reads, so that no octet is read twice. A fault in the
+// second piece is told.
+#[test]
+fn a_long_log_is_read_in_pieces(rt: HostRuntime) -> Result<(), Fail> {
+    let alloc = rt.alloc();
+    let mut rest = Bytes::new(alloc);
+    for _ in 0..4000 {
+        rest.add(TURN)?;
+    }
+    rest.add(&[0])?;
+    for (calls, wanted) in [
+        (b"\0\0\0\0\0\0\0\x01".as_slice(), Ok(4000)),
+        (b"\0\0\0\0\0\0\x01".as_slice(), Err(LogFault::DiskFault)),
+    ] {
+        let mut plant = over(alloc, b"MAILHUB1", rest.as_slice())?;
+        plant.fail_calls(Bytes::of(alloc, calls)?);
+        assert_eq!(rt; entries_of(alloc, &mut plant), wanted);
+    }
+    Ok(())
+}

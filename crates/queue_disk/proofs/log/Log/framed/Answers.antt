@@ -1,4 +1,4 @@
-use Rattle.std.proofs.Common.{◌≡◌, ◌+◌, length, ◌∙◌, sym, ap, arith}
+use Rattle.std.proofs.Common.{◌≡◌, length, ap, arith}
 use Rattle.queue_disk.specs.View.{LogView}
 use Rattle.queue_disk.proofs.Framing.{length-frame}
 use Rattle.queue_disk.proofs.log.Log.framed.Goals as goal

@@ -1,4 +1,4 @@
-use Rattle.std.proofs.Common.{◌≡◌, ◌+◌, List, ℕ, length, ◌∙◌, sym, ap, subst, arith}
+use Rattle.std.proofs.Common.{◌≡◌, length, ◌∙◌, ap, arith}
 use Rattle.mail_plan.specs.EntryText.{entry_text}
 use Rattle.queue_disk.specs.View.{LogView}
 use Rattle.queue_disk.specs.Log.{Frames, log_of}
