@@ -5,7 +5,7 @@ use Rattle.std.specs.List.{list_any}
 use Rattle.std.proofs.lemmas.Bool.Decides.{nat_tests}
 use Rattle.mail_plan.specs.Submission.{Submitted}
 use Rattle.hub_core.specs.Release.{with_key, distinct, items_from, release_of}
-use Rattle.hub_core.specs.Standing.{are_named, use_texts, is_release}
+use Rattle.mail_plan.specs.Planning.{are_named, use_texts, is_release}
 
 same : (n : ℕ) → (n == n) ≡ true
 same n = grind (arith, nat_tests)

@@ -35,4 +35,6 @@ abbrev pub release_of : ℕ → Submitted → Release
 release_of number s = record {
   texts = base_text number s.bytes ∷ [];
   items = items_from number 0 (distinct s.recipients);
+  holds = [];
+  ends = [];
 }

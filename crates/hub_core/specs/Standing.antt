@@ -4,6 +4,7 @@ use Rattle.std.specs.List.{list_any}
 use Rattle.mail_names.specs.declared.name.ItemName.{ItemName}
 use Rattle.mail_names.specs.declared.name.Mark.{Mark}
 use Rattle.mail_names.specs.declared.name.Mark.TheVariants as marks
+use Rattle.mail_plan.specs.Planning.{is_release}
 use Rattle.mail_plan.specs.Submission.{Submitted, same_submission}
 use Rattle.mail_plan.specs.declared.release.Item.{Item}
 use Rattle.mail_plan.specs.declared.release.Release.{Release}
@@ -115,30 +116,6 @@ has_room s submission =
 -- a moment that isn't before the last, nor past the year 9999
 abbrev pub is_moment : Standing → ℕ → Bool
 is_moment s moment = nat_le s.moment moment && nat_le moment last_moment
-
--- the items are named in order, from this place on
-abbrev pub are_named : ℕ → ℕ → ℕ → List Item → Bool
-are_named number release place [] = true
-are_named number release place (item ∷ items) =
-    same_name item.name (record { submission = number; release = release; place = place; mark = marks.Plain })
-    && are_named number release (place + 1) items
-
--- Texts are numbered in the order of their first use, behind so many, and each of `count` texts is used.
-abbrev pub use_texts : ℕ → ℕ → List Item → Bool
-use_texts used count [] = used == count
-use_texts used count (item ∷ items) =
-    if nat_lt item.text used then use_texts used count items
-    else ((item.text == used) && use_texts (used + 1) count items)
-
--- no text stands twice
-abbrev pub are_distinct : List (List ℕ) → Bool
-are_distinct [] = true
-are_distinct (text ∷ texts) = not (list_any (λ other. bytes_eq other text) texts) && are_distinct texts
-
--- the form of a release: items named in order, distinct texts in the order of first use, none without a use
-abbrev pub is_release : ℕ → ℕ → Release → Bool
-is_release number release plan =
-    are_named number release 0 plan.items && (use_texts 0 (length plan.texts) plan.items && are_distinct plan.texts)
 
 -- whether an entry can stand behind a history of this state
 abbrev pub is_lawful : Standing → Entry → Bool

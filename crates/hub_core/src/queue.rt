@@ -181,7 +181,7 @@ fn queued_each(
 pub fn queued_all(alloc: Global, release: Release) -> Result<VecDeque<QueuedItem>, NoMemory>
     ensures { IfOk result (λ made. made.items ≡ queued_all release) }
 {
-    let Release { texts, items } = release;
+    let Release { texts, items, .. } = release;
     let texts = shared_texts(alloc, texts.into_vec())?;
     queued_each(alloc, &texts, items.into_vec())
 }

@@ -1,7 +1,7 @@
 // What a submission sends.
 ghost use Rattle.std.specs.Prelude.{◌≡◌, true, IfOk, OnOk};
 ghost use Rattle.hub_core.specs.Release.{distinct, with_key, items_from, release_of};
-ghost use Rattle.hub_core.specs.Standing.{is_release};
+ghost use Rattle.mail_plan.specs.Planning.{is_release};
 
 use journal_report::Why;
 use mail_names::{Bytes, ItemName, Items, Key, Mark, NoMemory};
@@ -59,7 +59,12 @@ fn release_for(alloc: Global, number: u64, submission: &Submission) -> Result<Re
     let items = items_for(alloc, number, &folders)?;
     let mut texts = Items::new(alloc);
     texts.push(submission.base_text(alloc, number)?)?;
-    Ok(Release { texts, items })
+    Ok(Release {
+        texts,
+        items,
+        holds: Items::new(alloc),
+        ends: Items::new(alloc),
+    })
 }
 
 /// Release 0 of the submission of this number: the message that is sent for it, for each recipient once.

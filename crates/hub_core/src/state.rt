@@ -4,21 +4,18 @@ ghost use Rattle.std.specs.List.{list_any};
 ghost use Rattle.mail_names.specs.declared.name.Mark.TheVariants as marks;
 ghost use Rattle.hub_core.specs.declared.queue.QueuedItem.{QueuedItem};
 ghost use Rattle.hub_core.specs.declared.limits.Limits.{Limits};
-ghost use Rattle.hub_core.specs.Standing.{start, state_after, has_room, live_bytes, reply_new, is_lawful, is_release, are_named, use_texts, are_distinct, number_at, uncategorised_of, reply_submit, reply_to, now_of, is_named, same_name, place_of_same};
+ghost use Rattle.hub_core.specs.Standing.{start, state_after, has_room, live_bytes, reply_new, is_lawful, number_at, uncategorised_of, reply_submit, reply_to, now_of, is_named, same_name, place_of_same};
 
 use crate::limits::Limits;
 use crate::live::{Live, is_uncategorised, uncategorised};
 use crate::queue::{QueuedItem, find, is_waiting, mark_number, names_of, queued_all, take_out};
 use crate::remembered::Remembered;
 use crate::{Command, Reply, StepFault};
-use mail_names::{Bytes, ItemName, NoMemory};
+use mail_names::{Bytes, ItemName, LAST_MOMENT, NoMemory};
 use mail_plan::{Entry, Item, Release, Submission};
 use std::alloc::Global;
 use std::collections::VecDeque;
 use std::marker::Model;
-
-/// 9999-12-31T23:59:59Z.
-const LAST_MOMENT: u64 = 253_402_300_799;
 
 /// The state of the hub: its limits, its last moment, the submissions that it remembers with the octets of their
 /// messages, and the items that wait.
@@ -40,70 +37,6 @@ impl Model for State {
     ghost view = { λ s. record { limits = s.limits; moment = s.moment; live = s.live; waiting = s.waiting.items } };
 
     ghost invariant = { λ s. (s.moment ≤ 253402300799) × (s.bytes ≡ live_bytes s.live) };
-}
-
-fn has_name(item: &Item, number: u64, release: u32, place: usize) -> bool
-    ensures { result ≡ same_name item.now.name (record { submission = number; release = release; place = place; mark = marks.Plain }) }
-{
-    item.name.submission == number
-        && item.name.release == release
-        && item.name.place as usize == place
-        && mark_number(item.name.mark) == 0
-}
-
-// Whether the items are named in order.
-fn are_named(number: u64, release: u32, items: &[Item]) -> bool
-    ensures { result ≡ are_named number release 0 items.now }
-{
-    for (i, item) in items.iter().enumerate() {
-        if !has_name(item, number, release, i) {
-            return false;
-        }
-    }
-    true
-}
-
-// Whether each of these texts is used, first in their order.
-fn use_texts(count: usize, items: &[Item]) -> bool
-    ensures { result ≡ use_texts 0 count items.now }
-{
-    let mut used = 0usize;
-    for item in items {
-        let text = item.text as usize;
-        if text > used {
-            return false;
-        }
-        if text == used {
-            used += 1;
-        }
-    }
-    used == count
-}
-
-fn holds_text(texts: &[Bytes], text: &Bytes) -> bool
-    ensures { result ≡ list_any (λ other. bytes_eq other text.now) texts.now }
-{
-    texts.iter().any(|other| *other == *text)
-}
-
-// Whether no text stands twice.
-fn are_distinct(texts: &[Bytes]) -> bool
-    ensures { result ≡ are_distinct texts.now }
-{
-    for (i, text) in texts.iter().enumerate() {
-        if holds_text(&texts[i + 1..], text) {
-            return false;
-        }
-    }
-    true
-}
-
-fn is_release(number: u64, release: u32, plan: &Release) -> bool
-    ensures { result ≡ is_release number release plan.now }
-{
-    are_named(number, release, plan.items.as_slice())
-        && use_texts(plan.texts.len(), plan.items.as_slice())
-        && are_distinct(plan.texts.as_slice())
 }
 
 impl State {
@@ -283,7 +216,7 @@ impl State {
                 *release == 0
                     && *number >= 1
                     && is_uncategorised(self.live.as_slice(), (*number - 1) as usize)
-                    && is_release(*number, *release, plan)
+                    && plan.is_release(*number, *release)
             }
             Entry::Moment { moment } => self.moment <= *moment && *moment <= LAST_MOMENT,
             Entry::Delivered { name } => is_waiting(&self.waiting, name),

@@ -18,7 +18,8 @@ use Rattle.queue_disk.specs.Log.{IsOpen, LogOf, log_of, FullAnswer}
 use Rattle.hub_core.specs.declared.queue.QueuedItem.{QueuedItem}
 use Rattle.hub_core.specs.declared.limits.Limits.{Limits}
 use Rattle.hub_core.specs.Release.{release_of}
-use Rattle.hub_core.specs.Standing.{Standing, standing, now_of, has_room, place_of_same, is_named, is_lawful, is_release, is_uncategorised, uncategorised_of}
+use Rattle.mail_plan.specs.Planning.{is_release}
+use Rattle.hub_core.specs.Standing.{Standing, standing, now_of, has_room, place_of_same, is_named, is_lawful, is_uncategorised, uncategorised_of}
 use Rattle.hub_core.specs.Items.{items, accepted, Among, IsStep}
 use Rattle.hub_core.proofs.Prescribed.{prescribed}
 use Rattle.hub_core.proofs.Sending.{accepted_at, uncategorised_waits, found_named}

@@ -5,3 +5,4 @@ pub mod Ready
 pub mod Faults
 pub mod Refusals
 pub mod Office
+pub mod Opening

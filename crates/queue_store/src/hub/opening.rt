@@ -4,10 +4,11 @@ ghost use Rattle.port_io.specs.Causes.{Rose};
 ghost use Rattle.mail_plan.specs.declared.entry.Entry.{Entry};
 ghost use Rattle.plant_dev.specs.Disk.{Stays, Reads};
 ghost use Rattle.queue_disk.specs.Log.{FileOf, log_of};
-ghost use Rattle.queue_disk.specs.Reading.{IsRead};
+ghost use Rattle.queue_disk.specs.Reading.{IsHeld, IsRead, Begins};
 ghost use Rattle.hub_core.specs.declared.limits.Limits.{Limits};
 ghost use Rattle.hub_core.specs.Standing.{standing, state_after, is_lawful};
 ghost use Rattle.hub_core.specs.Items.{IsHistory};
+ghost use Rattle.queue_store.specs.Opening.{OpenFault};
 
 use super::Hub;
 use crate::HubFault;
@@ -30,6 +31,7 @@ impl Hub {
             IfOk result (λ hub. IsReady limits (P.state plant.new) hub h) }
         ensures never { (h : List Entry) → IsTrue (P.state plant.old).honest → IsHistory limits h → FileOf (P.state plant.old).image.file h →
             IfErr result (λ e. (e ≡ HubFault.DiskFault) ⊎ (e ≡ HubFault.NoMemory)) }
+        ensures bad { IsTrue (P.state plant.old).honest → IfErr result (λ e. OpenFault limits (P.state plant.old).image.file e) }
         ensures open { IfOk result (λ hub. hub.broken ≡ false) }
         ensures shelf { IsTrue (P.state plant.old).honest → (P.state plant.new).image.shelf ≡ (P.state plant.old).image.shelf }
         ensures stays { Stays (P.state plant.old) (P.state plant.new) }
@@ -48,6 +50,7 @@ impl Hub {
 // Goes on by an entry that was read behind the gate at this place.
 fn go_on(alloc: Global, state: &mut State, entry: Entry, gate: u64) -> Result<(), HubFault>
     ensures goes { OnOk result (state.new ≡ state_after state.old entry) }
+    ensures lawful_alone { OnOk result (is_lawful state.old entry ≡ true) }
     ensures lawful { is_lawful state.old entry ≡ true → IfErr result (λ e. e ≡ HubFault.NoMemory) }
     ensures only { IfErr result (λ e. (e ≡ HubFault.NoMemory) ⊎ (e ≡ HubFault.NotALog gate)) }
 {
@@ -69,12 +72,14 @@ fn replay<P: Plant>(
     ensures cause { IsErrOf result HubFault.DiskFault → Rose (P.state plant.old).disk_faults (P.state plant.new).disk_faults }
     ensures reads { IsTrue (P.state plant.old).honest → Reads (P.state plant.old) (P.state plant.new) }
     ensures most { log.new.most ≡ log.old.most }
-    ensures state { (h : List Entry) → IsTrue (P.state plant.old).honest → IsRead (P.state plant.old).image.file h [] log.old.place →
+    ensures state { (h : List Entry) → IsTrue (P.state plant.old).honest → IsRead (P.state plant.old).image.file h [] log.old →
         IfOk result (λ state. state ≡ standing limits h) }
-    ensures end { (h : List Entry) → IsTrue (P.state plant.old).honest → IsRead (P.state plant.old).image.file h [] log.old.place →
+    ensures end { (h : List Entry) → IsTrue (P.state plant.old).honest → IsRead (P.state plant.old).image.file h [] log.old →
         OnOk result (log.new.place ≡ length (log_of h)) }
-    ensures never { (h : List Entry) → IsTrue (P.state plant.old).honest → IsHistory limits h → IsRead (P.state plant.old).image.file h [] log.old.place →
+    ensures never { (h : List Entry) → IsTrue (P.state plant.old).honest → IsHistory limits h → IsRead (P.state plant.old).image.file h [] log.old →
         IfErr result (λ e. (e ≡ HubFault.DiskFault) ⊎ (e ≡ HubFault.NoMemory)) }
+    ensures bad { IsTrue (P.state plant.old).honest → IsHeld (P.state plant.old).image.file log.old → Begins (P.state plant.old).image.file [] log.old.place →
+        IfErr result (λ e. OpenFault limits (P.state plant.old).image.file e) }
 {
     let mut state = State::start(alloc, limits);
     while let Some(entry) = log.next(alloc, plant)? {

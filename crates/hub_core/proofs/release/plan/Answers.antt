@@ -4,7 +4,7 @@ use Rattle.mail_names.specs.declared.bytes.NoMemory.{NoMemory}
 use Rattle.mail_plan.specs.Submission.{Submitted}
 use Rattle.mail_plan.specs.declared.release.Release.{Release}
 use Rattle.hub_core.specs.Release.{release_of}
-use Rattle.hub_core.specs.Standing.{is_release}
+use Rattle.mail_plan.specs.Planning.{is_release}
 use Rattle.hub_core.proofs.Forming.{release-form}
 use Rattle.hub_core.proofs.release.plan.Goals as goal
 

@@ -3,8 +3,9 @@ use Rattle.plant_dev.specs.Disk.{Image}
 use Rattle.plant_dev.proofs.Moments.{stays_honest, durable_reads}
 use Rattle.queue_disk.specs.View.{LogView}
 use Rattle.queue_disk.specs.Log.{LogOf}
-use Rattle.queue_disk.specs.Reading.{IsRead}
+use Rattle.queue_disk.specs.Reading.{IsHeld, Begins}
 use Rattle.queue_store.proofs.Growing.{stands-same}
+use Rattle.queue_store.proofs.Opening.{refused_head, refused_later}
 use Rattle.queue_store.proofs.hub.Hub.open_hub.Goals as goal
 
 pub returns-clause-ready : goal.returns-clause-ready
@@ -13,7 +14,7 @@ returns-clause-ready g c h honest stands =
     let s1 = g.P.Plant.state c.open_log.new.plant in
     let s2 = g.P.Plant.state c.replay.new.plant in
     let begun = stays_honest s0 s1 c.open_log.ensures.stays honest in
-    let read = subst (λ (v : LogView). IsRead s1.image.file h [] v.place) (sym c.in_ok-log.ensures.at_start) (c.in_ok-log.ensures.unread h honest stands.file) in
+    let read = c.in_ok-log.ensures.unread h honest stands.file in
     let reads = c.replay.ensures.reads begun in
     let log = subst (λ (i : Image). LogOf i.file h) (sym reads.image) (c.in_ok-log.ensures.stands h honest stands.file) in
     record {
@@ -24,3 +25,18 @@ returns-clause-ready g c h honest stands =
       log = record { file = log; at = c.in_ok-state.ensures.end h begun read; durable = durable_reads s1 s2 (c.in_ok-log.ensures.durable honest) reads };
       stands = stands-same c.args.limits s0.image s2.image h stands (ap (λ (i : Image). i.shelf) reads.image ∙ c.open_log.ensures.shelf honest) (inr log);
     }
+
+pub returns-in_err-log-clause-bad : goal.returns-in_err-log-clause-bad
+returns-in_err-log-clause-bad g c honest =
+    refused_head c.args.limits (g.P.Plant.state c.args.plant.now).image.file c.in_err-log.field-0.0 _ c.from_residual.ensures.1 (c.in_err-log.ensures.refused honest)
+
+pub returns-in_err-state-clause-bad : goal.returns-in_err-state-clause-bad
+returns-in_err-state-clause-bad g c honest =
+    let s0 = g.P.Plant.state c.args.plant.now in
+    let s1 = g.P.Plant.state c.open_log.new.plant in
+    let begun = stays_honest s0 s1 c.open_log.ensures.stays honest in
+    let log = c.in_ok-log.log in
+    let held = subst (λ (v : LogView). IsHeld s1.image.file v) (sym c.in_ok-log.ensures.at_start) refl in
+    let begins = subst (λ (v : LogView). Begins s1.image.file [] v.place) (sym c.in_ok-log.ensures.at_start) (c.in_ok-log.ensures.begins honest) in
+    refused_later c.args.limits s0.image.file s1.image.file c.in_err-state.field-0.0 _ c.from_residual-in_err-state.ensures.1 (c.in_ok-log.ensures.opened honest)
+    (λ file. c.in_err-state.ensures.never [] begun tt (c.in_ok-log.ensures.unread [] honest file)) (c.in_err-state.ensures.bad begun held begins)

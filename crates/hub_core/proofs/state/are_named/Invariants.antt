@@ -1,6 +1,0 @@
-use Rattle.std.proofs.Common.{◌≡◌, drop}
-use Rattle.hub_core.specs.Standing.{are_named}
-use Rattle.hub_core.proofs.state.are_named.Given as goal
-
-abbrev pub invariant-loop-i : goal.invariant-loop-i
-invariant-loop-i l = are_named l.number l.release l.i (drop l.i l.items) ≡ are_named l.number l.release 0 l.items
