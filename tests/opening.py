@@ -2,9 +2,11 @@
 """Runs the proved program again and again on one folder.
 
 What an earlier run accepted is known to a later one, and a file that is no log of the hub's is told by status 6 and
-left as it was: a good log is cut at each place, and changed at each octet.
+left as it was: a good log is cut at each place, and changed at each octet. Two programs in one folder run one after the
+other.
 """
 import pathlib
+import select
 import subprocess
 import sys
 import tempfile
@@ -51,6 +53,28 @@ def later_runs(folder):
     return [f"later runs: told {told}"] * (told != wanted) + [f"later runs: {folder.items()}"] * (folder.items() != items)
 
 
+def one_at_a_time(folder, log):
+    """A program waits until the one before it in its folder has ended, and then goes on with what that one left."""
+    def start():
+        return subprocess.Popen([PROGRAM, "session"], stdin=subprocess.PIPE, stdout=subprocess.PIPE, cwd=folder.path)
+
+    folder.log.write_bytes(log)
+    first = start()
+    greeting = first.stdout.readline()
+    second = start()
+    sent, replies = message(b"m4", [b"cyn"])
+    second.stdin.write(b"HELO c\r\n" + sent)
+    second.stdin.flush()
+    if greeting != GREETING or select.select([second.stdout], [], [], 1)[0]:
+        yield "one at a time: the second program didn't wait"
+    sent_before, told_before = message(b"m3", [b"bob"])
+    for program, sent, replies, number in ((first, sent_before, told_before, 4), (second, b"", replies, 5)):
+        told, _ = program.communicate((b"HELO c\r\n" + sent) if sent else b"", timeout=60)
+        wanted = b"250 hub.invalid\r\n" + replies + b"250 Accepted %d\r\n" % number
+        if not told.endswith(wanted) or program.returncode != 0:
+            yield f"one at a time: told {told!r}, status {program.returncode}"
+
+
 def behind_the_gate(folder, log):
     """What lies behind the closed gate is ignored."""
     sent, replies = message(b"m2", [b"bob", b"cyn"])
@@ -94,7 +118,7 @@ def main():
         folder = Folder(path)
         failures = later_runs(folder)
         log = folder.log.read_bytes()
-        for check in (behind_the_gate, cut, changed):
+        for check in (behind_the_gate, one_at_a_time, cut, changed):
             failures += check(folder, log)
     for failure in failures:
         print(f"opening: {failure}")

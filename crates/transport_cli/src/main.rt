@@ -9,10 +9,11 @@ use mail_names::Bytes;
 use plant_dev::{FilePlant, FilePlantFault, MemoryPlant, Plant};
 use port_io::{ReaderSource, StdClock, WriterSink};
 use std::alloc::AllocError;
+use std::fs::File;
 use std::process::ExitCode;
 use std::{env, io};
 
-/// The exit status where the hub's folder or its log can't be made or opened.
+/// The exit status where the hub's folder or its log can't be made, opened or locked.
 const NO_FOLDER: u8 = 17;
 
 fn run(rt: &HostRuntime) -> Result<u8, AllocError> {
@@ -32,11 +33,22 @@ fn run(rt: &HostRuntime) -> Result<u8, AllocError> {
         // Words that are no command leave the disk as it was.
         return run_over(rt, words, &mut MemoryPlant::new(alloc, Bytes::new(alloc)));
     }
-    match FilePlant::new(rt.clone()?, alloc, "hub") {
-        Ok(mut plant) => run_over(rt, words, &mut plant),
-        Err(FilePlantFault::NoMemory) => Ok(2),
-        Err(FilePlantFault::Failed { .. }) => Ok(NO_FOLDER),
+    let mut plant = match FilePlant::new(rt.clone()?, alloc, "hub") {
+        Ok(plant) => plant,
+        Err(FilePlantFault::NoMemory) => return Ok(2),
+        Err(FilePlantFault::Failed { .. }) => return Ok(NO_FOLDER),
+    };
+    match locked(rt) {
+        Ok(_lock) => run_over(rt, words, &mut plant),
+        Err(_) => Ok(NO_FOLDER),
     }
+}
+
+// Waits until no other program has the hub's log, and keeps it from them as long as the handle lives.
+fn locked(rt: &HostRuntime) -> io::Result<File> {
+    let log = File::open(rt, "hub/queue.log")?;
+    log.lock()?;
+    Ok(log)
 }
 
 // Runs over this plant, with the program's own input, output and clock.

@@ -226,7 +226,7 @@ fn an_organisation_is_checked(rt: HostRuntime) -> Result<(), Fail> {
         ),
         (
             b"%%\n[[rule]]\n",
-            b"rules not built\n",
+            b"rules fault 3 at 0\n",
             Status::BadOrganisation,
         ),
     ] {
