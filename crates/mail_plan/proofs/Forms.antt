@@ -323,6 +323,10 @@ tail : (m n : ℕ) (a b : List ℕ) → m ∷ a ≡ n ∷ b → a ≡ b
 tail m n a b is = ap (λ (l : List ℕ). drop 1 l) is
 
 pub one_entry : OneForm IsEntry entry_text
+one_entry (entries.Organised d r) (entries.Organised e s) more rest here there is =
+    let p = parts IsBytes form_bytes one_bytes d e _ _ more rest here.0 there.0 (tail _ _ _ _ is) in
+    let q = one_bytes r s more rest here.1 there.1 p.1 in
+    (ap (λ (x : List ℕ). entries.Organised x r) p.0 ∙ ap (λ (x : List ℕ). entries.Organised e x) q.0, q.1)
 one_entry (entries.Accepted m s) (entries.Accepted n t) more rest here there is =
     let p = parts IsU64 le64 one_le64 m n _ _ more rest here.0 there.0 (tail _ _ _ _ is) in
     let q = one_submission s t more rest here.1 there.1 p.1 in
@@ -338,15 +342,23 @@ one_entry (entries.Moment m) (entries.Moment n) more rest here there is =
 one_entry (entries.Delivered a) (entries.Delivered b) more rest here there is =
     let p = one_name a b more rest here there (tail _ _ _ _ is) in
     (ap (λ (x : ItemName). entries.Delivered x) p.0, p.1)
+one_entry (entries.Organised d r) (entries.Accepted n t) more rest here there is = absurd (cc is)
+one_entry (entries.Organised d r) (entries.Categorised n j other) more rest here there is = absurd (cc is)
+one_entry (entries.Organised d r) (entries.Moment n) more rest here there is = absurd (cc is)
+one_entry (entries.Organised d r) (entries.Delivered b) more rest here there is = absurd (cc is)
+one_entry (entries.Accepted m s) (entries.Organised e t) more rest here there is = absurd (cc is)
 one_entry (entries.Accepted m s) (entries.Categorised n j other) more rest here there is = absurd (cc is)
 one_entry (entries.Accepted m s) (entries.Moment n) more rest here there is = absurd (cc is)
 one_entry (entries.Accepted m s) (entries.Delivered b) more rest here there is = absurd (cc is)
+one_entry (entries.Categorised m i plan) (entries.Organised e t) more rest here there is = absurd (cc is)
 one_entry (entries.Categorised m i plan) (entries.Accepted n t) more rest here there is = absurd (cc is)
 one_entry (entries.Categorised m i plan) (entries.Moment n) more rest here there is = absurd (cc is)
 one_entry (entries.Categorised m i plan) (entries.Delivered b) more rest here there is = absurd (cc is)
+one_entry (entries.Moment m) (entries.Organised e t) more rest here there is = absurd (cc is)
 one_entry (entries.Moment m) (entries.Accepted n t) more rest here there is = absurd (cc is)
 one_entry (entries.Moment m) (entries.Categorised n j other) more rest here there is = absurd (cc is)
 one_entry (entries.Moment m) (entries.Delivered b) more rest here there is = absurd (cc is)
+one_entry (entries.Delivered a) (entries.Organised e t) more rest here there is = absurd (cc is)
 one_entry (entries.Delivered a) (entries.Accepted n t) more rest here there is = absurd (cc is)
 one_entry (entries.Delivered a) (entries.Categorised n j other) more rest here there is = absurd (cc is)
 one_entry (entries.Delivered a) (entries.Moment n) more rest here there is = absurd (cc is)

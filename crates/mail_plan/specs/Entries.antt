@@ -87,6 +87,9 @@ pub record IsSubmission (s : Submitted) : Type 0 where
   pub bytes : IsBytes s.bytes
   pub made : submission_of s.origin s.reverse s.recipients s.bytes ≡ Ok s
 
+abbrev pub IsOrganised : List ℕ × List ℕ → Type 0
+IsOrganised texts = IsBytes texts.0 × IsBytes texts.1
+
 abbrev pub IsAccepted : ℕ × Submitted → Type 0
 IsAccepted accepted = IsU64 accepted.0 × IsSubmission accepted.1
 
@@ -94,6 +97,7 @@ abbrev pub IsCategorised : ℕ × ℕ × Release → Type 0
 IsCategorised made = IsU64 made.0 × IsU32 made.1 × IsRelease made.2
 
 abbrev pub IsEntry : Entry → Type 0
+IsEntry (entries.Organised directory rules) = IsOrganised (directory, rules)
 IsEntry (entries.Accepted moment submission) = IsAccepted (moment, submission)
 IsEntry (entries.Categorised number release plan) = IsCategorised (number, release, plan)
 IsEntry (entries.Moment moment) = IsU64 moment

@@ -115,6 +115,10 @@ abbrev pub form_submission : Submitted → List ℕ
 form_submission s =
     form_origin s.origin ++ (form_key_option s.reverse ++ (form_all form_bytes s.recipients ++ form_bytes s.bytes))
 
+-- an organisation: the text of its directory, and that of its rules
+abbrev pub form_organised : List ℕ × List ℕ → List ℕ
+form_organised texts = form_bytes texts.0 ++ form_bytes texts.1
+
 -- what was accepted: its moment, and the submission
 abbrev pub form_accepted : ℕ × Submitted → List ℕ
 form_accepted accepted = le64 accepted.0 ++ form_submission accepted.1
@@ -125,6 +129,7 @@ form_categorised made = le64 made.0 ++ (le32 made.1 ++ form_release made.2)
 
 -- an entry: its kind, and its fields in order
 abbrev pub entry_text : Entry → List ℕ
+entry_text (entries.Organised directory rules) = 1 ∷ form_organised (directory, rules)
 entry_text (entries.Accepted moment submission) = 2 ∷ form_accepted (moment, submission)
 entry_text (entries.Categorised number release plan) = 3 ∷ form_categorised (number, release, plan)
 entry_text (entries.Moment moment) = 5 ∷ le64 moment

@@ -1,5 +1,5 @@
 -- What a planner is asked for, and the form of what it gives.
-use Rattle.std.specs.Prelude.{◌≡◌, ℕ, zero, suc, ◌+◌, ◌==◌, ◌&&◌, not, nat_lt, nat_le, Bool, true, false, if◌then◌else◌, List, [], ◌∷◌, ◌++◌, length, map, take, bytes_eq, Option, Some, None, Result, Ok, Err}
+use Rattle.std.specs.Prelude.{◌≡◌, ℕ, zero, suc, ◌+◌, ◌==◌, ◌&&◌, not, nat_lt, nat_le, Bool, true, false, if◌then◌else◌, List, [], ◌∷◌, ◌++◌, length, map, take, bytes_eq, codes, Option, Some, None, Result, Ok, Err}
 use Rattle.std.specs.List.{list_any}
 use Rattle.mail_names.specs.declared.gate.Gate.{Gate}
 use Rattle.mail_names.specs.declared.gate.Gate.TheVariants as gates
@@ -33,6 +33,10 @@ Gives (Ok org) read = read ≡ Ok org
 Gives (Err (faults.Directory number row)) read = read ≡ Err (faults.Directory number row)
 Gives (Err (faults.Rules number rule)) read = read ≡ Err (faults.Rules number rule)
 Gives (Err faults.NoMemory) read = Unit {0}
+
+-- the directory text of the organisation that stands before any other: the header record alone
+abbrev pub first_directory : List ℕ
+first_directory = codes "key,kind,members,owners,moderated,moderators,bypass,tell" ++ 13 ∷ 10 ∷ []
 
 abbrev pub same_gate : Gate → Gate → Bool
 same_gate (gates.Object key) (gates.Object other) = bytes_eq key other

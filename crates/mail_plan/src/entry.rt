@@ -1,10 +1,15 @@
 // The entries of a history.
 use crate::{Release, Submission};
-use mail_names::ItemName;
+use mail_names::{Bytes, ItemName};
 
 /// What happened. Moments are seconds since 1970-01-01T00:00:00Z.
 #[derive(Drop)]
 pub enum Entry {
+    /// An organisation came into force: the texts of its directory and of its rules.
+    Organised {
+        directory: Bytes,
+        rules: Bytes,
+    },
     /// A submission was accepted, and got the next number.
     Accepted {
         moment: u64,

@@ -21,7 +21,7 @@ pub use entry::Entry;
 pub use input::ReleaseInput;
 pub use intake::{Accepted, Intake, IntakeFault, IntakeStep};
 pub use outcome::{Outcome, Task, plan};
-pub use planner::{OrgFault, Planner};
+pub use planner::{FIRST_DIRECTORY, OrgFault, Planner};
 pub use read::{
     get_approval_name, get_bytes, get_gate, get_item_name, get_key, get_key_option, get_keys,
     get_origin, get_release, get_why,

@@ -12,11 +12,14 @@ pub enum OrgFault {
     NoMemory,
 }
 
+/// The directory text of the organisation that stands before any other: the header record alone.
+pub const FIRST_DIRECTORY: &[u8] = b"key,kind,members,owners,moderated,moderators,bypass,tell\r\n";
+
 /// Reads organisations, and makes the releases of submissions by them.
 pub trait Planner {
-    ghost use Rattle.std.specs.Prelude.{◌≡◌, ℕ, Bool, true, false, List, Result, Ok, IfOk};
+    ghost use Rattle.std.specs.Prelude.{◌≡◌, ℕ, Bool, true, false, List, [], Result, Ok, Err, IfOk};
     ghost use Rattle.mail_names.specs.declared.gate.Gate.{Gate};
-    ghost use Rattle.mail_plan.specs.Planning.{Input, Gives, Continues, is_release, are_distinct, are_distinct_gates, is_among, is_gate_among, targets, gates_of};
+    ghost use Rattle.mail_plan.specs.Planning.{Input, Gives, Continues, first_directory, is_release, are_distinct, are_distinct_gates, is_among, is_gate_among, targets, gates_of};
     ghost use Rattle.mail_plan.specs.declared.planner.OrgFault.{OrgFault};
     ghost use Rattle.mail_plan.specs.declared.release.Release.{Release};
 
@@ -44,14 +47,19 @@ pub trait Planner {
     fn release(alloc: Global, org: &Self::Org, input: &ReleaseInput) -> Result<Release, NoMemory>
         ensures { IfOk result (λ release. release ≡ release_of org.now input.now) };
 
-    /// The texts that the organisation was read from: of its directory, and of its rules. It takes no memory.
+    /// The texts that the organisation was read from: of its directory, and of its rules. It is what they read to. It takes
+    /// no memory.
     fn texts(org: &Self::Org) -> (&[u8], &[u8])
         ensures directory { result.0.now ≡ directory_of org.now }
-        ensures rules { result.1.now ≡ rules_of org.now };
+        ensures rules { result.1.now ≡ rules_of org.now }
+        ensures own { reads (directory_of org.now) (rules_of org.now) ≡ Ok org.now };
 
     /// Whether the key's domain is accepted. It takes no memory.
     fn is_inside(org: &Self::Org, key: &Key) -> bool
         ensures { result ≡ inside org.now key.now };
+
+    /// The texts of the first organisation, which has no objects and no rules, are no fault.
+    ghost starts: { (fault : OrgFault) → reads first_directory [] ≡ Err fault → ⊥ };
 
     /// An organisation has the texts that it was read from.
     ghost own_texts: { (org : Self.Org) (directory rules : List ℕ) → reads directory rules ≡ Ok org →

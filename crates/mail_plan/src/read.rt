@@ -2,8 +2,8 @@
 ghost use Rattle.std.specs.Prelude.{◌≡◌};
 ghost use Rattle.mail_names.specs.Key.{IsKey};
 ghost use Rattle.mail_names.specs.Names.{IsApprovalName};
-ghost use Rattle.mail_plan.specs.EntryText.{form_bytes, form_key_option, form_all, form_name, form_approval, form_gate, form_why, form_release, form_origin, form_accepted, form_categorised, entry_text};
-ghost use Rattle.mail_plan.specs.Entries.{IsBytes, IsKeyOption, IsListOf, IsName, IsGate, IsWhy, IsRelease, IsOrigin, IsAccepted, IsCategorised, IsEntry};
+ghost use Rattle.mail_plan.specs.EntryText.{form_bytes, form_key_option, form_all, form_name, form_approval, form_gate, form_why, form_release, form_origin, form_organised, form_accepted, form_categorised, entry_text};
+ghost use Rattle.mail_plan.specs.Entries.{IsBytes, IsKeyOption, IsListOf, IsName, IsGate, IsWhy, IsRelease, IsOrigin, IsOrganised, IsAccepted, IsCategorised, IsEntry};
 ghost use Rattle.mail_plan.specs.Reading.{Reads, Finds, ReadsAll, found_of};
 
 use crate::fields::{
@@ -115,6 +115,15 @@ pub fn get_release(
     found(release_at(alloc, bytes, at))
 }
 
+// The texts of a directory and of rules.
+fn organised_at(alloc: Global, bytes: &[u8], at: usize) -> Result<((Bytes, Bytes), usize), Miss>
+    ensures { Reads IsOrganised form_organised bytes.now at result }
+{
+    let (directory, at_rules) = bytes_at(alloc, bytes, at)?;
+    let (rules, end) = bytes_at(alloc, bytes, at_rules)?;
+    Ok(((directory, rules), end))
+}
+
 // A moment and a submission.
 fn accepted_at(alloc: Global, bytes: &[u8], at: usize) -> Result<((u64, Submission), usize), Miss>
     ensures { Reads IsAccepted form_accepted bytes.now at result }
@@ -143,6 +152,10 @@ fn entry_at(alloc: Global, bytes: &[u8], at: usize) -> Result<(Entry, usize), Mi
 {
     let (kind, start) = byte_at(bytes, at)?;
     match kind {
+        1 => {
+            let ((directory, rules), end) = organised_at(alloc, bytes, start)?;
+            Ok((Entry::Organised { directory, rules }, end))
+        }
         2 => {
             let ((moment, submission), end) = accepted_at(alloc, bytes, start)?;
             Ok((Entry::Accepted { moment, submission }, end))

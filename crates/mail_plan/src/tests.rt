@@ -1,11 +1,12 @@
 use crate::{
-    Entry, Item, ItemKind, Origin, Release, Submission, get_approval_name, get_bytes, get_gate,
-    get_item_name, get_key, get_key_option, get_keys, get_origin, get_release, get_why,
-    put_approval_name, put_gate, put_release, put_why,
+    Entry, FIRST_DIRECTORY, Item, ItemKind, Origin, Release, Submission, get_approval_name,
+    get_bytes, get_gate, get_item_name, get_key, get_key_option, get_keys, get_origin, get_release,
+    get_why, put_approval_name, put_gate, put_release, put_why,
 };
 use journal_report::Why;
 use mail_names::{ApprovalName, Bytes, Gate, ItemName, Items, Key, Mark};
 use std::alloc::Global;
+use std::process::Abort;
 use std::test::Fail;
 
 const NAME: ItemName = ItemName {
@@ -59,27 +60,46 @@ fn release(alloc: Global) -> Result<Release, Fail> {
     })
 }
 
-#[test]
-fn entries_are_written_and_read(rt: HostRuntime) -> Result<(), Fail> {
-    let alloc = rt.alloc();
-    let plan = release(alloc)?;
-    for entry in [
-        accepted(alloc)?,
-        Entry::Categorised {
-            number: 1,
-            release: 2,
-            plan,
-        },
-        Entry::Moment { moment: 7 },
-        Entry::Delivered { name: NAME },
-    ] {
-        let text = entry.text(alloc)?;
-        let again = Entry::read(alloc, text.as_slice())?.ok_or("an entry")?;
-        assert!(rt; again.text(alloc)?.same(&text));
-        let front = &text.as_slice()[..text.as_slice().len().saturating_sub(1)];
-        assert!(rt; Entry::read(alloc, front)?.is_none());
-    }
+// An entry's text is read to it again, and without its last octet to none.
+fn check_entry<R: Abort>(rt: &R, alloc: Global, entry: &Entry) -> Result<(), Fail> {
+    let text = entry.text(alloc)?;
+    let again = Entry::read(alloc, text.as_slice())?.ok_or("an entry")?;
+    assert!(rt; again.text(alloc)?.same(&text));
+    let front = &text.as_slice()[..text.as_slice().len().saturating_sub(1)];
+    assert!(rt; Entry::read(alloc, front)?.is_none());
     Ok(())
+}
+
+#[test]
+fn an_organisation_is_written_and_read(rt: HostRuntime) -> Result<(), Fail> {
+    let alloc = rt.alloc();
+    let directory = Bytes::of(alloc, FIRST_DIRECTORY)?;
+    let rules = Bytes::of(alloc, b"xy")?;
+    check_entry(&rt, alloc, &Entry::Organised { directory, rules })
+}
+
+#[test]
+fn a_submission_is_written_and_read(rt: HostRuntime) -> Result<(), Fail> {
+    let alloc = rt.alloc();
+    check_entry(&rt, alloc, &accepted(alloc)?)
+}
+
+#[test]
+fn a_release_is_written_and_read(rt: HostRuntime) -> Result<(), Fail> {
+    let alloc = rt.alloc();
+    let entry = Entry::Categorised {
+        number: 1,
+        release: 2,
+        plan: release(alloc)?,
+    };
+    check_entry(&rt, alloc, &entry)
+}
+
+#[test]
+fn moments_and_deliveries_are_written_and_read(rt: HostRuntime) -> Result<(), Fail> {
+    let alloc = rt.alloc();
+    check_entry(&rt, alloc, &Entry::Moment { moment: 7 })?;
+    check_entry(&rt, alloc, &Entry::Delivered { name: NAME })
 }
 
 #[test]
@@ -101,29 +121,44 @@ fn other_bytes_are_no_entry(rt: HostRuntime) -> Result<(), Fail> {
     Ok(())
 }
 
+// An option of a key, or an origin with a mark, whose value is the three octets of a key.
+const VALUE_TEXT: &[u8] = b"\x01\x01\x03\0\0\0\0\0\0\0a@b";
+
 #[test]
-fn fields_are_read_at_their_place(rt: HostRuntime) -> Result<(), Fail> {
+fn octets_are_read_at_their_place(rt: HostRuntime) -> Result<(), Fail> {
     let alloc = rt.alloc();
-    let mut text = Bytes::of(alloc, b"\x01\x01")?;
-    text.add(KEY_TEXT)?;
-    let bytes = text.as_slice();
-    let (found, end) = get_bytes(alloc, bytes, 2)?.ok_or("bytes")?;
+    let (found, end) = get_bytes(alloc, VALUE_TEXT, 2)?.ok_or("bytes")?;
     assert_eq!(rt; found.as_slice(), b"a@b".as_slice());
     assert_eq!(rt; end, 13);
-    let (found, end) = get_key(alloc, bytes, 2)?.ok_or("a key")?;
+    assert!(rt; get_bytes(alloc, VALUE_TEXT, 14)?.is_none());
+    Ok(())
+}
+
+#[test]
+fn keys_are_read_at_their_place(rt: HostRuntime) -> Result<(), Fail> {
+    let alloc = rt.alloc();
+    let (found, end) = get_key(alloc, VALUE_TEXT, 2)?.ok_or("a key")?;
     assert_eq!(rt; found.bytes(), b"a@b".as_slice());
     assert_eq!(rt; end, 13);
-    let (found, end) = get_key_option(alloc, bytes, 1)?.ok_or("an option")?;
-    assert!(rt; found.is_some());
-    assert_eq!(rt; end, 13);
-    let (found, end) = get_origin(alloc, bytes, 1)?.ok_or("an origin")?;
-    assert!(rt; matches!(found, Origin::Pickup { .. }));
-    assert_eq!(rt; end, 13);
+    assert!(rt; get_key(alloc, b"\x03\0\0\0\0\0\0\0A@b", 0)?.is_none());
+    Ok(())
+}
+
+#[test]
+fn options_and_origins_are_read_at_their_place(rt: HostRuntime) -> Result<(), Fail> {
+    let alloc = rt.alloc();
+    let option = get_key_option(alloc, VALUE_TEXT, 1)?;
+    assert!(rt; matches!(option, Some((Some(_), 13))));
+    let origin = get_origin(alloc, VALUE_TEXT, 1)?;
+    assert!(rt; matches!(origin, Some((Origin::Pickup { .. }, 13))));
+    Ok(())
+}
+
+#[test]
+fn names_are_read_at_their_place(rt: HostRuntime) -> Result<(), Fail> {
     let (found, end) = get_item_name(NAME_TEXT, 0)?.ok_or("a name")?;
     assert_eq!(rt; found, NAME);
     assert_eq!(rt; end, 17);
-    assert!(rt; get_key(alloc, b"\x03\0\0\0\0\0\0\0A@b", 0)?.is_none());
-    assert!(rt; get_bytes(alloc, bytes, 14)?.is_none());
     Ok(())
 }
 
@@ -135,21 +170,26 @@ fn lists_are_read_behind_their_count(rt: HostRuntime) -> Result<(), Fail> {
     let (found, end) = get_keys(alloc, text.as_slice(), 0)?.ok_or("keys")?;
     assert_eq!(rt; found.len(), 1);
     assert_eq!(rt; end, 15);
+    Ok(())
+}
+
+fn check_release<R: Abort>(rt: &R, alloc: Global, found: &Release) -> Result<(), Fail> {
+    assert_eq!(rt; found.texts.len(), 1);
+    let item = found.items.as_slice().first().ok_or("an item")?;
+    assert_eq!(rt; item.kind, ItemKind::Version);
+    let groups = keys(alloc)?;
+    assert!(rt; item.why == Why::Via { groups });
+    Ok(())
+}
+
+#[test]
+fn releases_are_read_with_their_items(rt: HostRuntime) -> Result<(), Fail> {
+    let alloc = rt.alloc();
     let mut text = Bytes::new(alloc);
     put_release(&mut text, &release(alloc)?)?;
     let (found, end) = get_release(alloc, text.as_slice(), 0)?.ok_or("a release")?;
-    assert_eq!(rt; found.texts.len(), 1);
-    assert_eq!(rt; found.items.len(), 1);
     assert_eq!(rt; end, text.as_slice().len());
-    let item = found.items.as_slice().first().ok_or("an item")?;
-    assert_eq!(rt; item.kind, ItemKind::Version);
-    assert!(rt;
-        item.why
-            == Why::Via {
-                groups: keys(alloc)?
-            }
-    );
-    Ok(())
+    check_release(&rt, alloc, &found)
 }
 
 #[test]

@@ -313,6 +313,11 @@ fn put_entry(into: &mut Bytes, entry: &Entry) -> Result<(), NoMemory>
     ensures fits { OnOk result (IsEntry entry.now) }
 {
     match entry {
+        Entry::Organised { directory, rules } => {
+            into.add(&[1])?;
+            put_bytes(into, directory)?;
+            put_bytes(into, rules)
+        }
         Entry::Accepted { moment, submission } => {
             into.add(&[2])?;
             put_u64(into, *moment)?;

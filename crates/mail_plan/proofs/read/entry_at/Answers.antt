@@ -1,13 +1,19 @@
-use Rattle.mail_plan.specs.EntryText.{form_accepted, form_categorised, entry_text}
-use Rattle.mail_plan.specs.Entries.{IsAccepted, IsCategorised, IsEntry}
+use Rattle.mail_plan.specs.EntryText.{form_organised, form_accepted, form_categorised, entry_text}
+use Rattle.mail_plan.specs.Entries.{IsOrganised, IsAccepted, IsCategorised, IsEntry}
 use Rattle.mail_plan.proofs.Parts.{IsByte, form_byte, passed_on}
-use Rattle.mail_plan.proofs.ByKind.{tagged, has_accepted, has_categorised}
+use Rattle.mail_plan.proofs.ByKind.{tagged, has_organised, has_accepted, has_categorised}
 use Rattle.mail_plan.proofs.read.entry_at.Goals as goal
 
 pub returns-in_err-kind : goal.returns-in_err-kind
 returns-in_err-kind c =
     passed_on IsByte form_byte IsEntry entry_text c.args.bytes.now c.args.at c.args.at c.in_err-kind.field-0.0 c.from_residual.result c.from_residual.ensures.1
     (tagged c.args.bytes.now c.args.at) c.in_err-kind.ensures
+
+pub returns-in_err-directory-in-1 : goal.returns-in_err-directory-in-1
+returns-in_err-directory-in-1 c =
+    passed_on IsOrganised form_organised IsEntry entry_text c.args.bytes.now c.args.at c.in_ok-kind.start c.in_err-directory-in-1.field-0.0 c.from_residual-in_err-directory-in-1.result c.from_residual-in_err-directory-in-1.ensures.1
+    (has_organised c.in_ok-kind.kind c.args.bytes.now c.args.at c.in_ok-kind.start c.in_ok-kind.ensures c.in-1.is)
+    c.in_err-directory-in-1.ensures
 
 pub returns-in_err-moment-in-2 : goal.returns-in_err-moment-in-2
 returns-in_err-moment-in-2 c =
