@@ -1,6 +1,7 @@
 pub mod Books
 pub mod Differing
 pub mod Expanding
+pub mod First
 pub mod Growing
 pub mod Holding
 pub mod Keeping

@@ -1,8 +1,9 @@
 // Organisations.
-ghost use Rattle.std.specs.Prelude.{◌≡◌, Err};
+ghost use Rattle.std.specs.Prelude.{◌≡◌, Ok, Err};
 ghost use Rattle.mail_plan.specs.Planning.{Gives};
 ghost use Rattle.mail_plan.specs.declared.planner.OrgFault.TheVariants as faults;
 ghost use Rattle.org_directory.specs.Register.{is_inside};
+ghost use Rattle.org_directory.specs.Reading.{register_of};
 ghost use Rattle.rule_terms.specs.Reading.{book_of};
 ghost use Rattle.categorizer.specs.Organisation.{Organisation, directory_fault, rules_fault, with_book, organisation_of};
 
@@ -23,11 +24,15 @@ pub struct HubOrg {
 }
 
 impl Model for HubOrg {
-    ghost use Rattle.categorizer.specs.Organisation.{Organisation};
+    ghost use Rattle.std.specs.Prelude.{◌≡◌, Ok};
+    ghost use Rattle.categorizer.specs.Organisation.{Organisation, organisation_of};
 
     ghost Value = { Organisation };
 
     ghost view = { λ o. record { directory_text = o.directory_text; rules_text = o.rules_text; register = o.directory; book = o.book } };
+
+    ghost invariant = { λ o. organisation_of o.directory_text o.rules_text
+        ≡ Ok (record { directory_text = o.directory_text; rules_text = o.rules_text; register = o.directory; book = o.book }) };
 }
 
 // The fault of a directory, by its number. A row whose number needs more than 32 bits finds no memory.
@@ -75,6 +80,7 @@ fn with_rules(
     rules: &[u8],
     directory: Directory,
 ) -> Result<HubOrg, OrgFault>
+    requires { register_of directory_text ≡ Ok directory }
     ensures { Gives result (with_book directory_text rules.now directory (book_of rules.now directory)) }
 {
     let Ok(rules_text) = Bytes::of(alloc, rules) else {
@@ -106,9 +112,10 @@ impl HubOrg {
         }
     }
 
-    /// The text of the directory. It takes no memory.
+    /// The text of the directory. With that of the rules it reads to the organisation. It takes no memory.
     pub fn directory_text(&self) -> &[u8]
-        ensures { result.now ≡ self.now.directory_text }
+        ensures text { result.now ≡ self.now.directory_text }
+        ensures own { organisation_of self.now.directory_text self.now.rules_text ≡ Ok self.now }
     {
         self.directory_text.as_slice()
     }

@@ -12,6 +12,7 @@ impl Planner for HubPlanner {
     ghost use Rattle.org_directory.specs.Register.{is_inside};
     ghost use Rattle.categorizer.specs.Organisation.{Organisation, organisation_of};
     ghost use Rattle.categorizer.specs.Releasing.{hub_release};
+    ghost use Rattle.categorizer.proofs.First as first;
     ghost use Rattle.categorizer.proofs.Keeping as keeping;
 
     type Org = HubOrg;
@@ -41,6 +42,8 @@ impl Planner for HubPlanner {
     fn is_inside(org: &HubOrg, key: &Key) -> bool {
         org.is_inside(key)
     }
+
+    ghost starts = { first.starts };
 
     ghost own_texts = { keeping.own_texts };
 
