@@ -2,9 +2,12 @@ pub mod Removing
 pub mod Found
 pub mod Prescribed
 pub mod Sending
-pub mod Forming
 pub mod First
 pub mod Noted
 pub mod Repeating
 pub mod Room
 pub mod Unique
+pub mod Comparing
+pub mod Judging
+pub mod Matching
+pub mod Releasing

@@ -9,8 +9,7 @@ use Rattle.std.proofs.lemmas.Slice.Eq.{bytes_eq-Decides}
 use Rattle.mail_plan.specs.Submission.{Submitted, option_eq, same_mark, same_submission, has_message_id}
 use Rattle.mail_plan.specs.declared.submission.Origin.{Origin}
 use Rattle.mail_plan.specs.declared.submission.Origin.TheVariants as origins
-use Rattle.hub_core.specs.declared.live.Live.{Live}
-use Rattle.hub_core.specs.Standing.{place_of_same, mark, mark_at}
+use Rattle.hub_core.specs.Standing.{Mail, place_of_same, mark, mark_at}
 use Rattle.hub_core.specs.Repeats.{chained, path_octets, digest_under, digest_from, digest_of, is_digest, has_digest, found_or, place_at, IsIndex, repeats_at}
 use Rattle.hub_core.proofs.First.{position-none, position-agrees, position-never, position-push}
 
@@ -90,48 +89,48 @@ no_repeat a b none e =
     let s = same_is a b e in
     has_one a.origin b.origin (has_message_id b.bytes) b (ap (λ (bytes : List ℕ). has_message_id bytes || same_mark a.origin b.origin) (sym s.bytes) ∙ s.again) none
 
-narrower : (s : Submitted) (digest : List ℕ) → digest_of s ≡ Some digest → (live : Live) → same_submission live.submission s ≡ true → has_digest digest live ≡ true
+narrower : (s : Submitted) (digest : List ℕ) → digest_of s ≡ Some digest → (live : Mail) → same_submission live.submission s ≡ true → has_digest digest live ≡ true
 narrower s digest own live e = ap (is_digest digest) (repeat_digest live.submission s e ∙ own) ∙ (bytes_eq-Decides digest digest).1 refl
 
-pub place-without : (s : Submitted) (lives : List Live) → digest_of s ≡ None → place_of_same s lives ≡ None
-place-without s lives none = position-never (λ (live : Live). same_submission live.submission s) lives (λ live e. no_repeat live.submission s none e)
+pub place-without : (s : Submitted) (lives : List Mail) → digest_of s ≡ None → place_of_same s lives ≡ None
+place-without s lives none = position-never (λ (live : Mail). same_submission live.submission s) lives (λ live e. no_repeat live.submission s none e)
 
-pub place-missed : (s : Submitted) (index : BTreeMap (List ℕ) ℕ) (lives : List Live) (digest : List ℕ) → IsIndex index lives → digest_of s ≡ Some digest → place_at index digest ≡ None → place_of_same s lives ≡ None
+pub place-missed : (s : Submitted) (index : BTreeMap (List ℕ) ℕ) (lives : List Mail) (digest : List ℕ) → IsIndex index lives → digest_of s ≡ Some digest → place_at index digest ≡ None → place_of_same s lives ≡ None
 place-missed s index lives digest indexed own none =
-    position-none (λ (live : Live). same_submission live.submission s) (has_digest digest) lives (narrower s digest own) (sym (indexed digest) ∙ none)
+    position-none (λ (live : Mail). same_submission live.submission s) (has_digest digest) lives (narrower s digest own) (sym (indexed digest) ∙ none)
 
-stands : (o : Option Live) (s : Submitted) → repeats_at o s ≡ true → (live : Live) × (o ≡ Some live) × (same_submission live.submission s ≡ true)
+stands : (o : Option Mail) (s : Submitted) → repeats_at o s ≡ true → (live : Mail) × (o ≡ Some live) × (same_submission live.submission s ≡ true)
 stands None s e = absurd (true≢false (sym e))
 stands (Some live) s e = (live, refl, e)
 
-pub place-hit : (s : Submitted) (index : BTreeMap (List ℕ) ℕ) (lives : List Live) (digest : List ℕ) (place : ℕ) → IsIndex index lives → digest_of s ≡ Some digest → place_at index digest ≡ Some place →
+pub place-hit : (s : Submitted) (index : BTreeMap (List ℕ) ℕ) (lives : List Mail) (digest : List ℕ) (place : ℕ) → IsIndex index lives → digest_of s ≡ Some digest → place_at index digest ≡ Some place →
     repeats_at (slice_get lives place) s ≡ true → place_of_same s lives ≡ Some place
 place-hit s index lives digest place indexed own at again =
     let there = stands (slice_get lives place) s again in
-    position-agrees (λ (live : Live). same_submission live.submission s) (has_digest digest) lives place there.0 (narrower s digest own) there.1 there.2 (sym (indexed digest) ∙ at)
+    position-agrees (λ (live : Mail). same_submission live.submission s) (has_digest digest) lives place there.0 (narrower s digest own) there.1 there.2 (sym (indexed digest) ∙ at)
 
-marked_from : (digest : List ℕ) (n : ℕ) (lives : List Live) (k : ℕ) (live : Live) → slice_get lives k ≡ Some live →
-    position_from (has_digest digest) n (slice_set lives k (record live { categorised = true })) ≡ position_from (has_digest digest) n lives
+marked_from : (digest : List ℕ) (n : ℕ) (lives : List Mail) (k : ℕ) (live : Mail) → slice_get lives k ≡ Some live →
+    position_from (has_digest digest) n (slice_set lives k (record live { org = None })) ≡ position_from (has_digest digest) n lives
 marked_from digest n [] k live e = refl
 marked_from digest n (l ∷ lives) zero live e =
     let same : l ≡ live = cc in
-    ap (λ (x : Live). cond (has_digest digest x) (Some n) (position_from (has_digest digest) (n + 1) lives)) (sym same)
+    ap (λ (x : Mail). cond (has_digest digest x) (Some n) (position_from (has_digest digest) (n + 1) lives)) (sym same)
 marked_from digest n (l ∷ lives) (suc k) live e =
     ap (λ rest. cond (has_digest digest l) (Some n) rest) (marked_from digest (n + 1) lives k live e)
 
-marked_at : (digest : List ℕ) (lives : List Live) (place : ℕ) (at : Option Live) → slice_get lives place ≡ at →
+marked_at : (digest : List ℕ) (lives : List Mail) (place : ℕ) (at : Option Mail) → slice_get lives place ≡ at →
     position_from (has_digest digest) 0 (mark_at lives place at) ≡ position_from (has_digest digest) 0 lives
 marked_at digest lives place None e = refl
 marked_at digest lives place (Some live) e = marked_from digest 0 lives place live e
 
 -- an index stays one where a submission is marked
-pub index-marked : (index : BTreeMap (List ℕ) ℕ) (lives : List Live) (place : ℕ) → IsIndex index lives → IsIndex index (mark place lives)
+pub index-marked : (index : BTreeMap (List ℕ) ℕ) (lives : List Mail) (place : ℕ) → IsIndex index lives → IsIndex index (mark place lives)
 index-marked index lives place indexed = λ digest.
     indexed digest ∙ position_from-zero (has_digest digest) lives ∙ sym (marked_at digest lives place (slice_get lives place) refl)
     ∙ sym (position_from-zero (has_digest digest) (mark place lives))
 
 -- an index with the place of one submission more
-pub index-pushed : (old new : BTreeMap (List ℕ) ℕ) (lives : List Live) (live : Live) → IsIndex old lives →
+pub index-pushed : (old new : BTreeMap (List ℕ) ℕ) (lives : List Mail) (live : Mail) → IsIndex old lives →
     ((digest : List ℕ) → place_at new digest ≡ found_or (place_at old digest) (is_digest digest (digest_of live.submission)) (length lives)) → IsIndex new (lives ++ live ∷ [])
 index-pushed old new lives live indexed noted = λ digest.
     noted digest ∙ ap (λ o. found_or o (has_digest digest live) (length lives)) (indexed digest) ∙ sym (position-push (has_digest digest) lives live)

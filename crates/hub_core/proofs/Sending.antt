@@ -1,49 +1,107 @@
--- The submissions that are remembered, and the items that are found among those that wait.
-use Rattle.std.proofs.Common.{◌≡◌, ℕ, zero, suc, ◌-◌, Bool, true, false, cond, List, [], ◌∷◌, ◌++◌, Option, Some, None, refl, ap, ◌∙◌, sym, inl, inr, arith, append_assoc, append-nil}
-use Rattle.std.specs.Prelude.{fold, map, find, option_map, slice_get, slice_set, ◌&&◌, not}
-use Rattle.std.proofs.lemmas.Option.{slice_get-map}
+-- The submissions that are remembered are those that were accepted, and the items that are found are among those that wait.
+use Rattle.std.proofs.Common.{◌≡◌, ◌⊎◌, ℕ, zero, suc, ◌+◌, ◌-◌, Bool, true, false, cond, List, [], ◌∷◌, ◌++◌, Option, Some, None, refl, ap, ◌∙◌, sym, subst, inl, inr, arith, append_assoc, append-nil}
+use Rattle.std.specs.Prelude.{fold, find, slice_get, slice_set, ◌&&◌}
 use Rattle.std.proofs.lemmas.Bool.Decides.{Decides-eqb}
 use Rattle.mail_names.specs.declared.name.ItemName.{ItemName}
 use Rattle.mail_names.specs.declared.name.Mark.{Mark}
 use Rattle.mail_names.specs.declared.name.Mark.TheVariants as marks
-use Rattle.mail_plan.specs.Submission.{Submitted}
 use Rattle.mail_plan.specs.declared.entry.Entry.{Entry}
 use Rattle.mail_plan.specs.declared.entry.Entry.TheVariants as entries
 use Rattle.hub_core.specs.declared.queue.QueuedItem.{QueuedItem}
-use Rattle.hub_core.specs.declared.live.Live.{Live}
-use Rattle.hub_core.specs.declared.limits.Limits.{Limits}
-use Rattle.hub_core.specs.Standing.{Standing, start, standing, state_after, mark_at, mark_number, same_name, is_named, is_uncategorised, uncategorised_of}
-use Rattle.hub_core.specs.Items.{accepted, Among}
-use Rattle.hub_core.proofs.Prescribed.{accepted-cons}
+use Rattle.hub_core.specs.Setup.{Texts, Setup}
+use Rattle.hub_core.specs.Standing.{Mail, Standing, start, standing, state_after, mark_at, mark_number, same_name, is_named, input_of}
+use Rattle.hub_core.specs.Items.{Accepted, accepted_from, accepted, release_for, Among}
+use Rattle.hub_core.proofs.Prescribed.{accepted-append}
 
-abbrev submissions : List Live → List Submitted
-submissions lives = map (λ (live : Live). live.submission) lives
+-- a submission that is remembered is this one, as it was accepted
+record IsOf (mail : Mail) (a : Accepted) : Type 0 where
+  submission : mail.submission ≡ a.submission
+  moment : mail.accepted_at ≡ a.moment
+  epoch : mail.epoch ≡ a.epoch
+  org : (mail.org ≡ None) ⊎ (mail.org ≡ Some a.org)
 
-set_same : (lives : List Live) (k : ℕ) (live : Live) → slice_get lives k ≡ Some live → submissions (slice_set lives k (record live { categorised = true })) ≡ submissions lives
-set_same [] k live h = refl
-set_same (l ∷ lives) zero live h = let same : l ≡ live = cc in ap (λ (x : Live). x.submission ∷ submissions lives) (sym same)
-set_same (l ∷ lives) (suc k) live h = ap (λ rest. l.submission ∷ rest) (set_same lives k live h)
+-- and each of these
+abbrev AreOf : List Mail → List Accepted → Type 0
+AreOf [] [] = Unit {0}
+AreOf (mail ∷ live) [] = ⊥
+AreOf [] (a ∷ more) = ⊥
+AreOf (mail ∷ live) (a ∷ more) = IsOf mail a × AreOf live more
 
-marked : (lives : List Live) (k : ℕ) (at : Option Live) → slice_get lives k ≡ at → submissions (mark_at lives k at) ≡ submissions lives
-marked lives k None h = refl
-marked lives k (Some live) h = set_same lives k live h
+no_mail : (mail : Mail) → None ≡ Some mail → ⊥
+no_mail mail e = cc
 
-submissions-push : (xs ys : List Live) → submissions (xs ++ ys) ≡ submissions xs ++ submissions ys
-submissions-push [] ys = refl
-submissions-push (x ∷ xs) ys = ap (λ rest. x.submission ∷ rest) (submissions-push xs ys)
+some_mail : (a b : Mail) → Some a ≡ Some b → a ≡ b
+some_mail a b e = cc
 
-after_one : (s : Standing) (e : Entry) → submissions (state_after s e).live ≡ submissions s.live ++ accepted (e ∷ [])
-after_one s (entries.Accepted m x) = submissions-push s.live _
-after_one s (entries.Categorised n r p) = marked s.live (n - 1) (slice_get s.live (n - 1)) refl ∙ sym (append-nil (submissions s.live))
-after_one s (entries.Moment m) = sym (append-nil (submissions s.live))
-after_one s (entries.Delivered n) = sym (append-nil (submissions s.live))
+are-set : (live : List Mail) (all : List Accepted) (k : ℕ) (mail : Mail) → slice_get live k ≡ Some mail → AreOf live all → AreOf (slice_set live k (record mail { org = None })) all
+are-set [] all k mail at are = are
+are-set (m ∷ live) [] k mail at are = absurd are
+are-set (m ∷ live) (a ∷ all) zero mail at are =
+    let same : m ≡ mail = some_mail m mail at in
+    let is = subst (λ (x : Mail). IsOf x a) same are.0 in
+    (record { submission = is.submission; moment = is.moment; epoch = is.epoch; org = inl refl }, are.1)
+are-set (m ∷ live) (a ∷ all) (suc k) mail at are = (are.0, are-set live all k mail at are.1)
 
-after_all : (s : Standing) (h : List Entry) → submissions (fold state_after s h).live ≡ submissions s.live ++ accepted h
-after_all s [] = sym (append-nil (submissions s.live))
-after_all s (e ∷ h) = after_all (state_after s e) h ∙ ap (λ front. front ++ accepted h) (after_one s e) ∙ append_assoc (submissions s.live) (accepted (e ∷ [])) (accepted h) ∙ ap (λ rest. submissions s.live ++ rest) (accepted-cons e h)
+are-marked : (live : List Mail) (all : List Accepted) (k : ℕ) (at : Option Mail) → slice_get live k ≡ at → AreOf live all → AreOf (mark_at live k at) all
+are-marked live all k None e are = are
+are-marked live all k (Some mail) e are = are-set live all k mail e are
 
-pub live_accepted : (limits : Limits) (h : List Entry) → submissions (standing limits h).live ≡ accepted h
-live_accepted limits h = after_all (start limits) h
+are-push : (live : List Mail) (all : List Accepted) (mail : Mail) (a : Accepted) → AreOf live all → IsOf mail a → AreOf (live ++ mail ∷ []) (all ++ a ∷ [])
+are-push [] [] mail a are is = (is, tt)
+are-push [] (b ∷ all) mail a are is = absurd are
+are-push (m ∷ live) [] mail a are is = absurd are
+are-push (m ∷ live) (b ∷ all) mail a are is = (are.0, are-push live all mail a are.1 is)
+
+are-step : (s : Standing) (all : List Accepted) (e : Entry) → AreOf s.live all → AreOf (state_after s e).live (all ++ accepted_from s.epoch s.newest (e ∷ []))
+are-step s all (entries.Organised d r) are = subst (λ (xs : List Accepted). AreOf s.live xs) (sym (append-nil all)) are
+are-step s all (entries.Accepted m x) are =
+    are-push s.live all _ (record { submission = x; moment = m; epoch = s.epoch; org = s.newest }) are
+    (record { submission = refl; moment = refl; epoch = refl; org = inr refl })
+are-step s all (entries.Categorised n r p) are =
+    subst (λ (xs : List Accepted). AreOf (state_after s (entries.Categorised n r p)).live xs) (sym (append-nil all))
+    (are-marked s.live all (n - 1) (slice_get s.live (n - 1)) refl are)
+are-step s all (entries.Moment m) are = subst (λ (xs : List Accepted). AreOf s.live xs) (sym (append-nil all)) are
+are-step s all (entries.Delivered n) are = subst (λ (xs : List Accepted). AreOf s.live xs) (sym (append-nil all)) are
+
+are-all : (s : Standing) (all : List Accepted) (h : List Entry) → AreOf s.live all → AreOf (fold state_after s h).live (all ++ accepted_from s.epoch s.newest h)
+are-all s all [] are = subst (λ (xs : List Accepted). AreOf s.live xs) (sym (append-nil all)) are
+are-all s all (e ∷ h) are =
+    let s' = state_after s e in
+    subst (λ (xs : List Accepted). AreOf (fold state_after s' h).live xs)
+    (append_assoc all (accepted_from s.epoch s.newest (e ∷ [])) (accepted_from s'.epoch s'.newest h)
+    ∙ ap (λ (rest : List Accepted). all ++ rest) (sym (accepted-append s (e ∷ []) h)))
+    (are-all s' (all ++ accepted_from s.epoch s.newest (e ∷ [])) h (are-step s all e are))
+
+are-accepted : (setup : Setup) (h : List Entry) → AreOf (standing setup h).live (accepted h)
+are-accepted setup h = are-all (start setup) [] h tt
+
+are-at : (live : List Mail) (all : List Accepted) (k : ℕ) (mail : Mail) → AreOf live all → slice_get live k ≡ Some mail → (a : Accepted) × (slice_get all k ≡ Some a) × IsOf mail a
+are-at [] [] k mail are at = absurd (no_mail mail at)
+are-at [] (a ∷ all) k mail are at = absurd are
+are-at (m ∷ live) [] k mail are at = absurd are
+are-at (m ∷ live) (a ∷ all) zero mail are at = (a, refl, subst (λ (x : Mail). IsOf x a) (some_mail m mail at) are.0)
+are-at (m ∷ live) (a ∷ all) (suc k) mail are at = are-at live all k mail are.1 at
+
+own_org : (o : Option Texts) (a b : Texts) → (o ≡ None) ⊎ (o ≡ Some b) → o ≡ Some a → a ≡ b
+own_org o a b (inl none) some = absurd (none_some a (sym none ∙ some))
+  where
+    none_some : (a : Texts) → None ≡ Some a → ⊥
+    none_some a e = cc
+own_org o a b (inr other) some = texts_is a b (sym some ∙ other)
+  where
+    texts_is : (a b : Texts) → Some a ≡ Some b → a ≡ b
+    texts_is a b e = cc
+
+input-is : (setup : Setup) (n : ℕ) (mail : Mail) (org : Texts) (a : Accepted) → IsOf mail a → org ≡ a.org → setup.release_of org (input_of n mail) ≡ release_for setup n a
+input-is setup n mail org a is same =
+    λ i. setup.release_of (same i) (input_of n (record { submission = is.submission i; accepted_at = is.moment i; epoch = is.epoch i; org = mail.org }))
+
+-- a submission that waits to be categorised was accepted at its place, and its release is that of its task
+pub waiting_accepted : (setup : Setup) (h : List Entry) (place : ℕ) (mail : Mail) (org : Texts) → slice_get (standing setup h).live place ≡ Some mail → mail.org ≡ Some org →
+    (a : Accepted) × (slice_get (accepted h) place ≡ Some a) × (setup.release_of org (input_of (place + 1) mail) ≡ release_for setup (place + 1) a)
+waiting_accepted setup h place mail org at waits =
+    let (a, there, is) = are-at (standing setup h).live (accepted h) place mail (are-accepted setup h) at in
+    (a, there, input-is setup (place + 1) mail org a is (own_org mail.org org a.org is.org waits))
 
 first : (p : QueuedItem → Bool) (y : QueuedItem) (ys : List QueuedItem) (x : QueuedItem) (b : Bool) → p y ≡ b → cond b (Some y) (find p ys) ≡ Some x →
     (find p ys ≡ Some x → Among x ys × (p x ≡ true)) → Among x (y ∷ ys) × (p x ≡ true)
@@ -54,7 +112,7 @@ found : (p : QueuedItem → Bool) (xs : List QueuedItem) (x : QueuedItem) → fi
 found p [] x h = absurd cc
 found p (y ∷ ys) x h = first p y ys x (p y) refl h (found p ys x)
 
-both : (a b : Bool) → (a && b) ≡ true → (a ≡ true) × (b ≡ true)
+pub both : (a b : Bool) → (a && b) ≡ true → (a ≡ true) × (b ≡ true)
 both true b h = (refl, h)
 both false b h = absurd cc
 
@@ -90,27 +148,3 @@ name_is a b h =
 -- the item of a name that is found is one of those, and has it
 pub found_named : (name : ItemName) (xs : List QueuedItem) (x : QueuedItem) → find (is_named name) xs ≡ Some x → Among x xs × (x.name ≡ name)
 found_named name xs x h = let f = found (is_named name) xs x h in (f.0, name_is x.name name f.1)
-
-some_is : (a b : Submitted) → Some a ≡ Some b → a ≡ b
-some_is a b e = cc
-
-some≢none : (a : Submitted) → None ≡ Some a → ⊥
-some≢none a e = cc
-
-by_test : (t : Bool) (live : Live) (s : Submitted) → live.categorised ≡ t → cond t None (Some live.submission) ≡ Some s → (not live.categorised ≡ true) × (live.submission ≡ s)
-by_test true live s e h = absurd (some≢none s h)
-by_test false live s e h = (ap not e, some_is live.submission s h)
-
-waits : (o : Option Live) (s : Submitted) → uncategorised_of o ≡ Some s → (is_uncategorised o ≡ true) × (option_map (λ (l : Live). l.submission) o ≡ Some s)
-waits None s h = absurd (some≢none s h)
-waits (Some live) s h = let both = by_test live.categorised live s refl h in (both.0, ap (λ (x : Submitted). Some x) both.1)
-
--- a submission that waits to be categorised
-pub uncategorised_waits : (o : Option Live) (s : Submitted) → uncategorised_of o ≡ Some s → is_uncategorised o ≡ true
-uncategorised_waits o s h = (waits o s h).0
-
--- it was accepted, at its place
-pub accepted_at : (limits : Limits) (h : List Entry) (place : ℕ) (s : Submitted) → uncategorised_of (slice_get (standing limits h).live place) ≡ Some s → slice_get (accepted h) place ≡ Some s
-accepted_at limits h place s e =
-    ap (λ (ss : List Submitted). slice_get ss place) (sym (live_accepted limits h))
-    ∙ slice_get-map (λ (l : Live). l.submission) (standing limits h).live place ∙ (waits (slice_get (standing limits h).live place) s e).1

@@ -4,26 +4,22 @@ use Rattle.std.proofs.lemmas.List.{map-append}
 use Rattle.std.specs.Prelude.{map, ◌&&◌, ◌==◌}
 use Rattle.std.specs.Bool.{Decides}
 use Rattle.std.specs.List.{AllPairs, AllByRecursion, IsDistinct}
-use Rattle.std.proofs.lemmas.Bool.Decides.{nat_tests}
+use Rattle.std.proofs.lemmas.Bool.Decides.{nat_tests, Decides-eqb}
 use Rattle.std.proofs.lemmas.Map.Keys.{IsDistinct-head, IsDistinct-tail, IsDistinct-cons}
 use Rattle.std.proofs.lemmas.Map.Made.{AllPairs-from_IsDistinct}
 use Rattle.mail_names.specs.declared.name.ItemName.{ItemName}
-use Rattle.mail_names.specs.declared.name.Mark.TheVariants as marks
-use Rattle.mail_plan.specs.Submission.{Submitted}
+use Rattle.mail_plan.specs.Planning.{Input, is_at, are_named, is_release}
+use Rattle.mail_plan.specs.declared.release.Item.{Item}
 use Rattle.mail_plan.specs.declared.entry.Entry.{Entry}
 use Rattle.hub_core.specs.declared.queue.QueuedItem.{QueuedItem}
-use Rattle.hub_core.specs.Release.{distinct, items_from, release_of}
-use Rattle.hub_core.specs.Standing.{mark_number, same_name, queued, queued_all}
-use Rattle.hub_core.specs.Items.{accepted, items_of, items}
-use Rattle.hub_core.proofs.Sending.{name_is}
+use Rattle.hub_core.specs.Setup.{Texts, Setup}
+use Rattle.hub_core.specs.Standing.{mark_number, same_name, queued, queued_all, first_input}
+use Rattle.hub_core.specs.Items.{Accepted, accepted, release_for, items_of, items}
+use Rattle.hub_core.proofs.Sending.{both, name_is}
 
 -- the names of these items
 abbrev names : List QueuedItem → List ItemName
 names items = map (λ (item : QueuedItem). item.name) items
-
--- the name of the item of a recipient
-abbrev plain : ℕ → ℕ → ItemName
-plain number place = record { submission = number; release = 0; place = place; mark = marks.Plain }
 
 -- none of these names is this one
 abbrev Misses : ItemName → List ItemName → Type 0
@@ -72,47 +68,75 @@ distinct_both (x ∷ xs) ys h g apart =
     IsDistinct-cons same_name x (xs ++ ys) (misses_both x xs ys (IsDistinct-head same_name x xs h) apart.0)
     (distinct_both xs ys (IsDistinct-tail same_name x xs h) g apart.1)
 
+-- what a name at a place of a release is
+at_place : (n r place : ℕ) (name : ItemName) → is_at n r place name ≡ true → (name.submission ≡ n) × (name.place ≡ place)
+at_place n r place name h =
+    let one = both _ _ h in
+    let two = both _ _ one.1 in
+    let three = both _ _ two.1 in
+    ((Decides-eqb name.submission n).0 one.0, (Decides-eqb name.place place).0 three.0)
+
 -- an item behind these places has another name
-misses_places : (texts : List (List ℕ)) (name : ItemName) (number place : ℕ) (folders : List (List ℕ)) → name.place < place → Misses name (names (map (queued texts) (items_from number place folders)))
-misses_places texts name number place [] low = tt
-misses_places texts name number place (f ∷ folders) low =
-    (of_place name (plain number place) low, misses_places texts name number (place + 1) folders (omega arith))
+misses_places : (texts : List (List ℕ)) (name : ItemName) (n r place : ℕ) (items : List Item) → are_named n r place items ≡ true → name.place < place →
+    Misses name (names (map (queued texts) items))
+misses_places texts name n r place [] named low = tt
+misses_places texts name n r place (item ∷ items) named low =
+    let parts = both _ _ named in
+    let at = at_place n r place item.name parts.0 in
+    (of_place name item.name (omega (arith, low, at.1)), misses_places texts name n r (place + 1) items parts.1 (omega arith))
 
-places_distinct : (texts : List (List ℕ)) (number place : ℕ) (folders : List (List ℕ)) → IsDistinct same_name (names (map (queued texts) (items_from number place folders)))
-places_distinct texts number place [] = none
-places_distinct texts number place (f ∷ folders) =
-    IsDistinct-cons same_name (plain number place) (names (map (queued texts) (items_from number (place + 1) folders)))
-    (misses_places texts (plain number place) number (place + 1) folders (omega arith))
-    (places_distinct texts number (place + 1) folders)
+places_distinct : (texts : List (List ℕ)) (n r place : ℕ) (items : List Item) → are_named n r place items ≡ true → IsDistinct same_name (names (map (queued texts) items))
+places_distinct texts n r place [] named = none
+places_distinct texts n r place (item ∷ items) named =
+    let parts = both _ _ named in
+    let at = at_place n r place item.name parts.0 in
+    IsDistinct-cons same_name item.name (names (map (queued texts) items))
+    (misses_places texts item.name n r (place + 1) items parts.1 (omega (arith, at.1)))
+    (places_distinct texts n r (place + 1) items parts.1)
 
-misses_release : (texts : List (List ℕ)) (name : ItemName) (number place : ℕ) (folders : List (List ℕ)) → name.submission < number → Misses name (names (map (queued texts) (items_from number place folders)))
-misses_release texts name number place [] low = tt
-misses_release texts name number place (f ∷ folders) low = (of_other name (plain number place) low, misses_release texts name number (place + 1) folders low)
+misses_release : (texts : List (List ℕ)) (name : ItemName) (n r place : ℕ) (items : List Item) → are_named n r place items ≡ true → name.submission < n →
+    Misses name (names (map (queued texts) items))
+misses_release texts name n r place [] named low = tt
+misses_release texts name n r place (item ∷ items) named low =
+    let parts = both _ _ named in
+    let at = at_place n r place item.name parts.0 in
+    (of_other name item.name (omega (arith, low, at.0)), misses_release texts name n r (place + 1) items parts.1 low)
 
-misses_later : (name : ItemName) (number : ℕ) (submissions : List Submitted) → name.submission < number → Misses name (names (items_of number submissions))
-misses_later name number [] low = tt
-misses_later name number (s ∷ submissions) low =
-    subst (λ (others : List ItemName). Misses name others)
-    (sym (map-append (λ (item : QueuedItem). item.name) (queued_all (release_of number s)) (items_of (number + 1) submissions)))
-    (misses_both name (names (queued_all (release_of number s))) (names (items_of (number + 1) submissions))
-    (misses_release (release_of number s).texts name number 0 (distinct s.recipients) low)
-    (misses_later name (number + 1) submissions (omega arith)))
+-- A release has the form of one, whatever it is made from.
+abbrev pub AreReleases : Setup → Type 0
+AreReleases setup = (texts : Texts) (input : Input) → is_release input.number input.release (setup.release_of texts input) ≡ true
 
-release_misses : (texts : List (List ℕ)) (number place : ℕ) (folders : List (List ℕ)) (submissions : List Submitted) →
-    AllByRecursion (λ name. Misses name (names (items_of (number + 1) submissions))) (names (map (queued texts) (items_from number place folders)))
-release_misses texts number place [] submissions = tt
-release_misses texts number place (f ∷ folders) submissions =
-    (misses_later (plain number place) (number + 1) submissions (omega arith), release_misses texts number (place + 1) folders submissions)
+module _ (setup : Setup) (releases : AreReleases setup) where
+  named : (n : ℕ) (a : Accepted) → are_named n 0 0 (release_for setup n a).items ≡ true
+  named n a = (both _ _ (releases a.org (first_input n a.epoch a.moment a.submission))).0
 
-names_distinct : (number : ℕ) (submissions : List Submitted) → IsDistinct same_name (names (items_of number submissions))
-names_distinct number [] = none
-names_distinct number (s ∷ submissions) =
-    subst (λ (all : List ItemName). IsDistinct same_name all)
-    (sym (map-append (λ (item : QueuedItem). item.name) (queued_all (release_of number s)) (items_of (number + 1) submissions)))
-    (distinct_both (names (queued_all (release_of number s))) (names (items_of (number + 1) submissions))
-    (places_distinct (release_of number s).texts number 0 (distinct s.recipients)) (names_distinct (number + 1) submissions)
-    (release_misses (release_of number s).texts number 0 (distinct s.recipients) submissions))
+  misses_later : (name : ItemName) (n : ℕ) (all : List Accepted) → name.submission < n → Misses name (names (items_of setup n all))
+  misses_later name n [] low = tt
+  misses_later name n (a ∷ all) low =
+      subst (λ (others : List ItemName). Misses name others)
+      (sym (map-append (λ (item : QueuedItem). item.name) (queued_all (release_for setup n a)) (items_of setup (n + 1) all)))
+      (misses_both name (names (queued_all (release_for setup n a))) (names (items_of setup (n + 1) all))
+      (misses_release (release_for setup n a).texts name n 0 0 (release_for setup n a).items (named n a) low)
+      (misses_later name (n + 1) all (omega arith)))
 
--- of the items of any entries, no two have one name
-pub names-differ : (history : List Entry) → AllPairs (λ (a b : ItemName). a ≢ b) (names (items history))
-names-differ history = AllPairs-from_IsDistinct name_decides (names (items history)) (names_distinct 1 (accepted history))
+  release_misses : (texts : List (List ℕ)) (n place : ℕ) (items : List Item) (all : List Accepted) → are_named n 0 place items ≡ true →
+      AllByRecursion (λ name. Misses name (names (items_of setup (n + 1) all))) (names (map (queued texts) items))
+  release_misses texts n place [] all named = tt
+  release_misses texts n place (item ∷ items) all named =
+      let parts = both _ _ named in
+      let at = at_place n 0 place item.name parts.0 in
+      (misses_later item.name (n + 1) all (omega (arith, at.0)), release_misses texts n (place + 1) items all parts.1)
+
+  names_distinct : (n : ℕ) (all : List Accepted) → IsDistinct same_name (names (items_of setup n all))
+  names_distinct n [] = none
+  names_distinct n (a ∷ all) =
+      let release = release_for setup n a in
+      subst (λ (every : List ItemName). IsDistinct same_name every)
+      (sym (map-append (λ (item : QueuedItem). item.name) (queued_all release) (items_of setup (n + 1) all)))
+      (distinct_both (names (queued_all release)) (names (items_of setup (n + 1) all))
+      (places_distinct release.texts n 0 0 release.items (named n a)) (names_distinct (n + 1) all)
+      (release_misses release.texts n 0 release.items all (named n a)))
+
+  -- of the items of any entries, no two have one name
+  pub names-differ : (history : List Entry) → AllPairs (λ (a b : ItemName). a ≢ b) (names (items setup history))
+  names-differ history = AllPairs-from_IsDistinct name_decides (names (items setup history)) (names_distinct 1 (accepted history))

@@ -1,4 +1,6 @@
-pub mod Release
+pub mod Setup
 pub mod Standing
+pub mod Differing
+pub mod Replies
 pub mod Items
 pub mod Repeats

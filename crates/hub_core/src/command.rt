@@ -1,12 +1,14 @@
 // What the hub is asked, and what it answers.
-use mail_names::ItemName;
-use mail_plan::Submission;
+use crate::part::Part;
+use mail_names::{Bytes, ItemName};
+use mail_plan::{OrgFault, Outcome, Planner, Submission};
 
 /// What is asked. Clocks are seconds since 1970-01-01T00:00:00Z.
 #[derive(Drop)]
-pub enum Command {
+pub enum Command<T: Planner> {
+    Organise { directory: Bytes, rules: Bytes },
     Submit { submission: Submission, clock: u64 },
-    Commit { number: u64, release: u32 },
+    Commit { outcome: Outcome<T> },
     Moment { clock: u64 },
     Delivered { name: ItemName },
 }
@@ -14,6 +16,12 @@ pub enum Command {
 /// What is answered.
 #[derive(Clone, Copy, Debug, PartialEq, Eq)]
 pub enum Reply {
+    /// The epoch of the organisation, which is the newest one's where that has these texts.
+    Organised { epoch: u32 },
+    /// So many organisations are live, and the limits leave no room for one more.
+    EpochsFull { live: u64 },
+    /// The texts are no organisation's.
+    Org { fault: OrgFault },
     Accepted { number: u64, repeat: bool },
     /// So many submissions, and so many octets of their messages, are remembered.
     QueueFull { live: u64, bytes: u64 },
@@ -22,6 +30,8 @@ pub enum Reply {
     Already,
     /// No submission has that release.
     Unknown,
+    /// The outcome was made from another input: the first part that differs, and the place in it.
+    NotItsInput { part: Part, at: u64 },
     Done,
     /// No item of that name waits.
     NotNow,

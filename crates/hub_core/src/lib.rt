@@ -6,8 +6,8 @@ mod digest;
 pub mod laws;
 mod limits;
 mod live;
+mod part;
 mod queue;
-mod release;
 mod remembered;
 mod state;
 #[cfg(test)]
@@ -16,6 +16,6 @@ mod tests;
 pub use command::{Command, Reply, StepFault};
 pub use limits::Limits;
 pub use live::Live;
+pub use part::{Difference, Part};
 pub use queue::{QueuedItem, SharedBytes};
-pub use release::plan;
 pub use state::State;

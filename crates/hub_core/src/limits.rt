@@ -11,10 +11,14 @@ pub struct Limits {
     pub live: u64,
     /// Octets of their messages.
     pub bytes: u64,
+    /// Live organisations: the newest, and those by which a submission is planned that waits to be categorised or has an
+    /// item waiting.
+    pub epochs: u64,
 }
 
 impl Limits {
-    /// The limits of the program: a log of 2^40 octets, 100,000 submissions, and 2 GiB of their messages.
+    /// The limits of the program: a log of 2^40 octets, 100,000 submissions, 2 GiB of their messages, and 64 live
+    /// organisations.
     pub fn usual() -> Limits
         ensures { result ≡ usual }
     {
@@ -22,6 +26,7 @@ impl Limits {
             log: 1_099_511_627_776,
             live: 100_000,
             bytes: 2_147_483_648,
+            epochs: 64,
         }
     }
 }

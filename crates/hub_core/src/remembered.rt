@@ -6,7 +6,7 @@ ghost use Rattle.hub_core.specs.Repeats.{digest_of, is_digest, found_or, place_a
 use crate::digest::digest_of;
 use crate::live::{Live, is_repeat, mark, place_of_same};
 use mail_names::NoMemory;
-use mail_plan::Submission;
+use mail_plan::{Planner, Submission};
 use std::alloc::Global;
 use std::collections::BTreeMap;
 use std::marker::Model;
@@ -16,17 +16,17 @@ use std::marker::Model;
 /// `index` has the place of the first submission of each digest. So a look-up takes one pass over the message and a
 /// search in a tree. It scans them all only where two different submissions have one SHA-256 digest.
 #[derive(Drop)]
-pub struct Remembered {
-    lives: Vec<Live>,
+pub struct Remembered<T: Planner> {
+    lives: Vec<Live<T>>,
     index: BTreeMap<[u8; 32], usize>,
 }
 
-impl Model for Remembered {
+impl<T: Planner> Model for Remembered<T> {
     ghost use Rattle.std.specs.Prelude.{List};
-    ghost use Rattle.hub_core.specs.declared.live.Live.{Live};
+    ghost use Rattle.hub_core.specs.Standing.{Mail};
     ghost use Rattle.hub_core.specs.Repeats.{IsIndex};
 
-    ghost Value = { List Live };
+    ghost Value = { List Mail };
 
     ghost view = { λ r. r.lives.items };
 
@@ -51,7 +51,7 @@ fn note(
     Ok(())
 }
 
-fn repeats_at(lives: &[Live], place: usize, submission: &Submission) -> bool
+fn repeats_at<T: Planner>(lives: &[Live<T>], place: usize, submission: &Submission) -> bool
     ensures { result ≡ repeats_at (slice_get lives.now place) submission.now }
 {
     match lives.get(place) {
@@ -61,8 +61,8 @@ fn repeats_at(lives: &[Live], place: usize, submission: &Submission) -> bool
 }
 
 // The place of the first submission that this one, of this digest, repeats.
-fn place_by(
-    lives: &[Live],
+fn place_by<T: Planner>(
+    lives: &[Live<T>],
     index: &BTreeMap<[u8; 32], usize>,
     digest: &[u8; 32],
     submission: &Submission,
@@ -83,8 +83,8 @@ fn place_by(
     }
 }
 
-impl Remembered {
-    pub fn new(alloc: Global) -> Remembered
+impl<T: Planner> Remembered<T> {
+    pub fn new(alloc: Global) -> Remembered<T>
         ensures { result ≡ [] }
     {
         Remembered {
@@ -93,7 +93,7 @@ impl Remembered {
         }
     }
 
-    pub fn as_slice(&self) -> &[Live]
+    pub fn as_slice(&self) -> &[Live<T>]
         ensures { result.now ≡ self.now }
     {
         &self.lives
@@ -111,16 +111,13 @@ impl Remembered {
     }
 
     /// Puts a submission behind the others. After an error they are as they were.
-    pub fn push(&mut self, submission: Submission) -> Result<(), NoMemory>
-        ensures ok { OnOk result (self.new ≡ self.old ++ (record { submission = submission; categorised = false }) ∷ []) }
+    pub fn push(&mut self, live: Live<T>) -> Result<(), NoMemory>
+        ensures ok { OnOk result (self.new ≡ self.old ++ live ∷ []) }
         ensures err { OnErr result (self.new ≡ self.old) }
     {
-        let digest = digest_of(&submission);
+        let digest = digest_of(live.submission());
         let place = self.lives.len();
-        self.lives.push(Live {
-            submission,
-            categorised: false,
-        })?;
+        self.lives.push(live)?;
         if let Err(fault) = note(&mut self.index, digest, place) {
             self.lives.pop();
             return Err(fault);

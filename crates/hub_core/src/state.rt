@@ -1,56 +1,92 @@
 // The state of the hub, as far as its history matters.
-ghost use Rattle.std.specs.Prelude.{◌≡◌, ◌+◌, ◌<◌, ◌≤◌, ◌^◌, ◌++◌, ◌∷◌, ◌↔◌, ◌&&◌, true, false, nat_lt, length, map, IfOk, OnOk, OnErr, IsErrOf, IsSome, find, bytes_eq, slice_get, option_copied};
-ghost use Rattle.std.specs.List.{list_any};
-ghost use Rattle.mail_names.specs.declared.name.Mark.TheVariants as marks;
+ghost use Rattle.std.specs.Prelude.{◌≡◌, ◌+◌, ◌<◌, ◌≤◌, ◌^◌, ℕ, List, Ok, true, nat_lt, length, map, fold, IfOk, IfSome, OnOk, IsSome, is_some, find, slice_get, option_copied, option_map, ◌-◌};
+ghost use Rattle.std.specs.Arc.{arc_value};
 ghost use Rattle.hub_core.specs.declared.queue.QueuedItem.{QueuedItem};
 ghost use Rattle.hub_core.specs.declared.limits.Limits.{Limits};
-ghost use Rattle.hub_core.specs.Standing.{start, state_after, has_room, live_bytes, reply_new, is_lawful, number_at, uncategorised_of, reply_submit, reply_to, now_of, is_named, same_name, place_of_same};
+ghost use Rattle.hub_core.specs.Setup.{setup_of, texts_of, first_org};
+ghost use Rattle.hub_core.specs.Standing.{Applies, IsTask, start, has_room, has_epoch, live_bytes, live_epochs, with_epoch, with_mail, with_item, same_texts, is_lawful, is_moment, is_uncategorised, number_at, now_of, is_named, place_of_same, first_task};
+ghost use Rattle.hub_core.specs.Replies.{reply_organise, reply_other, reply_submit, reply_commit, reply_delivered, reply_to};
 
 use crate::limits::Limits;
-use crate::live::{Live, is_uncategorised, uncategorised};
-use crate::queue::{QueuedItem, find, is_waiting, mark_number, names_of, queued_all, take_out};
+use crate::live::{Live, first_task, is_uncategorised, judge_at};
+use crate::queue::{QueuedItem, find, is_waiting, names_of, queued_all, take_out};
 use crate::remembered::Remembered;
 use crate::{Command, Reply, StepFault};
-use mail_names::{Bytes, ItemName, LAST_MOMENT, NoMemory};
-use mail_plan::{Entry, Item, Release, Submission};
+use mail_names::{ItemName, LAST_MOMENT, NoMemory};
+use mail_plan::{Entry, FIRST_DIRECTORY, OrgFault, Outcome, Planner, Release, Submission, Task};
 use std::alloc::Global;
 use std::collections::VecDeque;
 use std::marker::Model;
+use std::sync::Arc;
 
-/// The state of the hub: its limits, its last moment, the submissions that it remembers with the octets of their
-/// messages, and the items that wait.
+/// The state of the hub: its limits, its last moment, the newest organisation with its epoch, the submissions that it
+/// remembers with the octets of their messages, and the items that wait.
 #[derive(Drop)]
-pub struct State {
+pub struct State<T: Planner> {
     limits: Limits,
     moment: u64,
-    live: Remembered,
+    epoch: u32,
+    newest: Arc<T::Org>,
+    live: Remembered<T>,
     bytes: u64,
     waiting: VecDeque<QueuedItem>,
 }
 
-impl Model for State {
-    ghost use Rattle.hub_core.specs.Standing.{Standing, live_bytes};
+impl<T: Planner> Model for State<T> {
     ghost use Rattle.std.specs.Prelude.{◌≡◌, ◌≤◌};
+    ghost use Rattle.std.specs.Arc.{arc_value};
+    ghost use Rattle.hub_core.specs.Setup.{texts_of};
+    ghost use Rattle.hub_core.specs.Standing.{Standing, live_bytes};
 
     ghost Value = { Standing };
 
-    ghost view = { λ s. record { limits = s.limits; moment = s.moment; live = s.live; waiting = s.waiting.items } };
+    ghost view = { λ s. record { limits = s.limits; moment = s.moment; epoch = s.epoch; newest = texts_of T.directory_of T.rules_of (arc_value s.newest); live = s.live; waiting = s.waiting.items } };
 
     ghost invariant = { λ s. (s.moment ≤ 253402300799) × (s.bytes ≡ live_bytes s.live) };
 }
 
-impl State {
+// The organisation that stands before any other.
+fn first_org<T: Planner>(alloc: Global) -> Result<T::Org, NoMemory>
+    ensures { IfOk result (λ org. texts_of T.directory_of T.rules_of org ≡ first_org) }
+{
+    match T::read_org(alloc, FIRST_DIRECTORY, &[]) {
+        Ok(org) => Ok(org),
+        Err(OrgFault::NoMemory) => Err(NoMemory),
+        Err(OrgFault::Directory { .. }) => unreachable!(),
+        Err(OrgFault::Rules { .. }) => unreachable!(),
+    }
+}
+
+impl<T: Planner> State<T> {
     /// The state of the empty history under these limits.
-    pub fn start(alloc: Global, limits: Limits) -> State
-        ensures { result ≡ start limits }
+    pub fn start(alloc: Global, limits: Limits) -> Result<State<T>, NoMemory>
+        ensures { IfOk result (λ state. state ≡ start (setup_of T.reads T.release_of limits)) }
     {
-        State {
+        let newest = Arc::new(alloc, first_org::<T>(alloc)?)?;
+        Ok(State {
             limits,
             moment: 0,
+            epoch: 0,
+            newest,
             live: Remembered::new(alloc),
             bytes: 0,
             waiting: VecDeque::new(alloc),
-        }
+        })
+    }
+
+    /// The epoch of the newest organisation: the count of those that came into force.
+    pub fn epoch(&self) -> u32
+        ensures { result ≡ self.now.epoch }
+    {
+        self.epoch
+    }
+
+    /// The texts of the newest organisation: of its directory, and of its rules. It takes no memory.
+    pub fn texts(&self) -> (&[u8], &[u8])
+        ensures directory { result.0.now ≡ self.now.newest.directory }
+        ensures rules { result.1.now ≡ self.now.newest.rules }
+    {
+        T::texts(&self.newest)
     }
 
     /// The greatest moment of the history.
@@ -70,17 +106,10 @@ impl State {
     }
 
     /// The submissions that were accepted, in the order of their numbers.
-    pub fn live(&self) -> &[Live]
+    pub fn live(&self) -> &[Live<T>]
         ensures { result.now ≡ self.now.live }
     {
         self.live.as_slice()
-    }
-
-    /// The submission at this place (its number less 1), if it waits to be categorised.
-    pub fn uncategorised(&self, place: usize) -> Option<&Submission>
-        ensures { option_copied result ≡ uncategorised_of (slice_get self.now.live place) }
-    {
-        uncategorised(self.live.as_slice(), place)
     }
 
     /// The limits that the hub is held to.
@@ -131,31 +160,122 @@ impl State {
     /// The item of this name, if it waits.
     pub fn item(&self, name: &ItemName) -> Option<&QueuedItem>
         ensures value { option_copied result ≡ find (is_named name.now) self.now.waiting }
-        ensures waits { IsSome result → is_lawful self.now (Entry.Delivered name.now) ≡ true }
+        ensures waits { IsSome result → is_lawful (setup_of T.reads T.release_of self.now.limits) self.now (Entry.Delivered name.now) ≡ true }
     {
         find(&self.waiting, name)
     }
 
-    /// What is answered to a command.
-    pub fn judge(&self, command: &Command) -> Reply
-        ensures { result ≡ reply_to self.now command.now }
+    /// The task of the first release of the submission at this place (its number less 1), if it waits to be categorised.
+    pub fn task_at(&self, alloc: Global, place: usize) -> Result<Option<Task<T>>, NoMemory>
+        requires { place + 1 < 2 ^ 64 }
+        ensures waits { IfOk result (λ task. is_some task ≡ is_uncategorised (slice_get self.now.live place)) }
+        ensures made { IfOk result (λ task. IfSome task (λ t. IfSome (slice_get self.now.live place) (λ mail. IsTask (place + 1) mail t.input (texts_of T.directory_of T.rules_of (arc_value t.org))))) }
     {
-        match command {
-            Command::Submit { submission, .. } => self.judge_submit(submission),
-            Command::Commit { number, release } => self.judge_commit(*number, *release),
-            Command::Moment { .. } => Reply::Done,
-            Command::Delivered { name } => {
-                if is_waiting(&self.waiting, name) {
-                    Reply::Done
-                } else {
-                    Reply::NotNow
-                }
-            }
+        match self.live.as_slice().get(place) {
+            None => Ok(None),
+            Some(live) => live.task(alloc, place as u64 + 1),
         }
     }
 
-    fn judge_submit(&self, submission: &Submission) -> Reply
-        ensures { result ≡ reply_submit self.now submission.now (place_of_same submission.now self.now.live) }
+    /// The task of the first submission that waits to be categorised, of those whose number leaves this residue. None where
+    /// there is none.
+    pub fn task(
+        &self,
+        alloc: Global,
+        residue: u32,
+        workers: u32,
+    ) -> Result<Option<Task<T>>, NoMemory>
+        requires { residue < workers }
+        ensures first { IfOk result (λ task. option_map (λ (t : _). t.input.number) task ≡ first_task residue workers 1 self.now.live) }
+        ensures made { IfOk result (λ task. IfSome task (λ t. IfSome (slice_get self.now.live (t.input.number - 1)) (λ mail. IsTask t.input.number mail t.input (texts_of T.directory_of T.rules_of (arc_value t.org))))) }
+    {
+        match first_task(self.live.as_slice(), residue, workers) {
+            None => Ok(None),
+            Some(place) => self.task_at(alloc, place),
+        }
+    }
+
+    /// What is answered to a command.
+    pub fn judge(&self, alloc: Global, command: &Command<T>) -> Result<Reply, NoMemory>
+        ensures { IfOk result (λ reply. reply ≡ reply_to (texts_of T.directory_of T.rules_of) (setup_of T.reads T.release_of self.now.limits) self.now command.now) }
+    {
+        match command {
+            Command::Organise { directory, rules } => {
+                self.judge_organise(alloc, directory.as_slice(), rules.as_slice())
+            }
+            Command::Submit { submission, .. } => Ok(self.judge_submit(submission)),
+            Command::Commit { outcome } => Ok(self.judge_commit(outcome)),
+            Command::Moment { .. } => Ok(Reply::Done),
+            Command::Delivered { name } => Ok(self.judge_delivered(name)),
+        }
+    }
+
+    /// What is answered to the texts of an organisation.
+    pub fn judge_organise(
+        &self,
+        alloc: Global,
+        directory: &[u8],
+        rules: &[u8],
+    ) -> Result<Reply, NoMemory>
+        ensures { IfOk result (λ reply. reply ≡ reply_organise (setup_of T.reads T.release_of self.now.limits) self.now (record { directory = directory.now; rules = rules.now })) }
+    {
+        match T::read_org(alloc, directory, rules) {
+            Err(OrgFault::NoMemory) => Err(NoMemory),
+            Err(OrgFault::Directory { number, row }) => Ok(Reply::Org {
+                fault: OrgFault::Directory { number, row },
+            }),
+            Err(OrgFault::Rules { number, rule }) => Ok(Reply::Org {
+                fault: OrgFault::Rules { number, rule },
+            }),
+            Ok(_) if self.is_newest(directory, rules) => Ok(Reply::Organised { epoch: self.epoch }),
+            Ok(_) => self.judge_other(alloc),
+        }
+    }
+
+    // What is answered to an organisation that isn't the newest.
+    fn judge_other(&self, alloc: Global) -> Result<Reply, NoMemory>
+        ensures { IfOk result (λ reply. reply ≡ reply_other self.now) }
+    {
+        let live = self.live_epochs(alloc)?;
+        if self.has_epoch(live) {
+            Ok(Reply::Organised {
+                epoch: self.epoch + 1,
+            })
+        } else {
+            Ok(Reply::EpochsFull { live })
+        }
+    }
+
+    // Whether there is room for one organisation more, where so many are live.
+    fn has_epoch(&self, live: u64) -> bool
+        ensures value { live ≡ length (live_epochs self.now) → result ≡ has_epoch self.now }
+        ensures small { result ≡ true → self.now.epoch < 4294967295 }
+    {
+        self.epoch < u32::MAX && live < self.limits.epochs
+    }
+
+    // Whether the newest organisation has these texts.
+    fn is_newest(&self, directory: &[u8], rules: &[u8]) -> bool
+        ensures { result ≡ same_texts (record { directory = directory.now; rules = rules.now }) self.now.newest }
+    {
+        let (newest_directory, newest_rules) = T::texts(&self.newest);
+        directory == newest_directory && rules == newest_rules
+    }
+
+    // How many organisations are live.
+    fn live_epochs(&self, alloc: Global) -> Result<u64, NoMemory>
+        ensures { IfOk result (λ count. count ≡ length (live_epochs self.now)) }
+    {
+        let mut epochs = Vec::new(alloc);
+        epochs.push(self.epoch)?;
+        add_waiting(&mut epochs, self.live.as_slice())?;
+        add_items(&mut epochs, self.live.as_slice(), &self.waiting)?;
+        Ok(epochs.len() as u64)
+    }
+
+    /// What is answered to a submission.
+    pub fn judge_submit(&self, submission: &Submission) -> Reply
+        ensures { result ≡ reply_submit self.now submission.now }
     {
         match self.live.place_of_same(submission) {
             Some(place) => Reply::Accepted {
@@ -185,41 +305,26 @@ impl State {
             && live + 1 < u64::MAX
     }
 
-    fn judge_commit(&self, number: u64, release: u32) -> Reply
-        ensures { result ≡ reply_to self.now (Command.Commit number release) }
+    /// What is answered to an outcome: it is taken where it was made from the input of a release that waits to be
+    /// categorised, and by its organisation.
+    pub fn judge_commit(&self, outcome: &Outcome<T>) -> Reply
+        ensures { result ≡ reply_commit self.now outcome.now.1 (texts_of T.directory_of T.rules_of outcome.now.0) }
     {
-        if release != 0 || number == 0 {
+        let number = outcome.input().number();
+        if outcome.input().release() != 0 || number == 0 {
             return Reply::Unknown;
         }
-        match self.live.as_slice().get((number - 1) as usize) {
-            None => Reply::Unknown,
-            Some(live) if live.categorised => Reply::Already,
-            Some(_) => Reply::Committed,
-        }
+        judge_at(self.live.as_slice(), (number - 1) as usize, outcome)
     }
 
-    fn is_lawful(&self, entry: &Entry) -> bool
-        ensures { result ≡ is_lawful self.now entry.now }
+    /// What is answered to the delivery of an item.
+    pub fn judge_delivered(&self, name: &ItemName) -> Reply
+        ensures { result ≡ reply_delivered self.now name.now }
     {
-        match entry {
-            Entry::Accepted { moment, submission } => {
-                self.moment <= *moment
-                    && *moment <= LAST_MOMENT
-                    && self.live.place_of_same(submission).is_none()
-                    && self.has_room(submission)
-            }
-            Entry::Categorised {
-                number,
-                release,
-                plan,
-            } => {
-                *release == 0
-                    && *number >= 1
-                    && is_uncategorised(self.live.as_slice(), (*number - 1) as usize)
-                    && plan.is_release(*number, *release)
-            }
-            Entry::Moment { moment } => self.moment <= *moment && *moment <= LAST_MOMENT,
-            Entry::Delivered { name } => is_waiting(&self.waiting, name),
+        if is_waiting(&self.waiting, name) {
+            Reply::Done
+        } else {
+            Reply::NotNow
         }
     }
 
@@ -227,30 +332,185 @@ impl State {
     ///
     /// After a refusal the state is as it was.
     pub fn apply(&mut self, alloc: Global, entry: Entry) -> Result<(), StepFault>
-        ensures ok { OnOk result (self.new ≡ state_after self.old entry) }
-        ensures lawful { IsErrOf result StepFault.NotLawful ↔ (is_lawful self.old entry ≡ false) }
-        ensures err { OnErr result (self.new ≡ self.old) }
+        ensures { Applies (setup_of T.reads T.release_of self.old.limits) self.old entry result self.new }
     {
-        if !self.is_lawful(&entry) {
+        match entry {
+            Entry::Organised { directory, rules } => {
+                self.organise(alloc, directory.as_slice(), rules.as_slice())
+            }
+            Entry::Accepted { moment, submission } => self.accept(alloc, moment, submission),
+            Entry::Categorised {
+                number,
+                release,
+                plan,
+            } => self.categorise(alloc, number, release, plan),
+            Entry::Moment { moment } => self.turn(moment),
+            Entry::Delivered { name } => self.deliver(&name),
+        }
+    }
+
+    // An organisation comes into force, if these are the texts of one.
+    fn organise(&mut self, alloc: Global, directory: &[u8], rules: &[u8]) -> Result<(), StepFault>
+        ensures { Applies (setup_of T.reads T.release_of self.old.limits) self.old (Entry.Organised directory.now rules.now) result self.new }
+    {
+        match T::read_org(alloc, directory, rules) {
+            Ok(org) => self.change(alloc, org),
+            Err(OrgFault::NoMemory) => Err(StepFault::NoMemory),
+            Err(OrgFault::Directory { .. }) => Err(StepFault::NotLawful),
+            Err(OrgFault::Rules { .. }) => Err(StepFault::NotLawful),
+        }
+    }
+
+    // This organisation comes into force, if it is another one and there is room for it.
+    fn change(&mut self, alloc: Global, org: T::Org) -> Result<(), StepFault>
+        ensures { (directory rules : List ℕ) → T.reads directory rules ≡ Ok org → Applies (setup_of T.reads T.release_of self.old.limits) self.old (Entry.Organised directory rules) result self.new }
+    {
+        let (directory, rules) = T::texts(&org);
+        if self.is_newest(directory, rules) {
             return Err(StepFault::NotLawful);
         }
-        match entry {
-            Entry::Accepted { moment, submission } => {
-                let size = submission.bytes().len() as u64;
-                self.live.push(submission).map_err(|_| StepFault::NoMemory)?;
-                self.bytes += size;
-                self.moment = moment;
-            }
-            Entry::Categorised { number, plan, .. } => {
-                let mut items = queued_all(alloc, plan).map_err(|_| StepFault::NoMemory)?;
-                self.waiting
-                    .append(&mut items)
-                    .map_err(|_| StepFault::NoMemory)?;
-                self.live.mark((number - 1) as usize);
-            }
-            Entry::Moment { moment } => self.moment = moment,
-            Entry::Delivered { name } => take_out(&mut self.waiting, &name),
+        let Ok(live) = self.live_epochs(alloc) else {
+            return Err(StepFault::NoMemory);
+        };
+        if !self.has_epoch(live) {
+            return Err(StepFault::NotLawful);
         }
+        let Ok(newest) = Arc::new(alloc, org) else {
+            return Err(StepFault::NoMemory);
+        };
+        self.newest = newest;
+        self.epoch += 1;
         Ok(())
     }
+
+    // Whether a moment can stand behind the last.
+    fn is_moment(&self, moment: u64) -> bool
+        ensures value { result ≡ is_moment self.now moment }
+        ensures last { result ≡ true → moment ≤ LAST_MOMENT }
+    {
+        self.moment <= moment && moment <= LAST_MOMENT
+    }
+
+    // A submission was accepted.
+    fn accept(
+        &mut self,
+        alloc: Global,
+        moment: u64,
+        submission: Submission,
+    ) -> Result<(), StepFault>
+        ensures { Applies (setup_of T.reads T.release_of self.old.limits) self.old (Entry.Accepted moment submission) result self.new }
+    {
+        if !self.is_moment(moment)
+            || self.live.place_of_same(&submission).is_some()
+            || !self.has_room(&submission)
+        {
+            return Err(StepFault::NotLawful);
+        }
+        let size = submission.bytes().len() as u64;
+        let org = self.newest.clone().map_err(|_| StepFault::NoMemory)?;
+        let live = Live::new(alloc, submission, moment, self.epoch, org).map_err(
+            |_| StepFault::NoMemory,
+        )?;
+        self.live.push(live).map_err(|_| StepFault::NoMemory)?;
+        self.bytes += size;
+        self.moment = moment;
+        Ok(())
+    }
+
+    // A release was made.
+    fn categorise(
+        &mut self,
+        alloc: Global,
+        number: u64,
+        release: u32,
+        plan: Release,
+    ) -> Result<(), StepFault>
+        ensures { Applies (setup_of T.reads T.release_of self.old.limits) self.old (Entry.Categorised number release plan) result self.new }
+    {
+        if release != 0
+            || number == 0
+            || !is_uncategorised(self.live.as_slice(), (number - 1) as usize)
+            || !plan.is_release(number, release)
+        {
+            return Err(StepFault::NotLawful);
+        }
+        let mut items = queued_all(alloc, plan).map_err(|_| StepFault::NoMemory)?;
+        self.waiting
+            .append(&mut items)
+            .map_err(|_| StepFault::NoMemory)?;
+        self.live.mark((number - 1) as usize);
+        Ok(())
+    }
+
+    // A turn began.
+    fn turn(&mut self, moment: u64) -> Result<(), StepFault>
+        ensures { Applies (setup_of T.reads T.release_of self.old.limits) self.old (Entry.Moment moment) result self.new }
+    {
+        if !self.is_moment(moment) {
+            return Err(StepFault::NotLawful);
+        }
+        self.moment = moment;
+        Ok(())
+    }
+
+    // An item is in its folder.
+    fn deliver(&mut self, name: &ItemName) -> Result<(), StepFault>
+        ensures { Applies (setup_of T.reads T.release_of self.old.limits) self.old (Entry.Delivered name.now) result self.new }
+    {
+        if !is_waiting(&self.waiting, name) {
+            return Err(StepFault::NotLawful);
+        }
+        take_out(&mut self.waiting, name);
+        Ok(())
+    }
+}
+
+// Adds an epoch, unless it is there.
+fn add_epoch(epochs: &mut Vec<u32>, epoch: u32) -> Result<(), NoMemory>
+    ensures { OnOk result (epochs.new.items ≡ with_epoch epochs.old.items epoch) }
+{
+    if !epochs.contains(&epoch) {
+        epochs.push(epoch)?;
+    }
+    Ok(())
+}
+
+// Adds the epochs of the submissions that wait to be categorised.
+fn add_waiting<T: Planner>(epochs: &mut Vec<u32>, lives: &[Live<T>]) -> Result<(), NoMemory>
+    ensures { OnOk result (epochs.new.items ≡ fold with_mail epochs.old.items lives.now) }
+{
+    for live in lives {
+        if live.is_waiting() {
+            add_epoch(epochs, live.epoch())?;
+        }
+    }
+    Ok(())
+}
+
+// Adds the epoch of the submission of an item.
+fn add_item<T: Planner>(
+    epochs: &mut Vec<u32>,
+    lives: &[Live<T>],
+    item: &QueuedItem,
+) -> Result<(), NoMemory>
+    ensures { OnOk result (epochs.new.items ≡ with_item lives.now epochs.old.items item.now) }
+{
+    match lives.get(item.name.submission.saturating_sub(1) as usize) {
+        None => Ok(()),
+        Some(live) => add_epoch(epochs, live.epoch()),
+    }
+}
+
+// Adds the epochs of the submissions that have an item waiting.
+fn add_items<T: Planner>(
+    epochs: &mut Vec<u32>,
+    lives: &[Live<T>],
+    waiting: &VecDeque<QueuedItem>,
+) -> Result<(), NoMemory>
+    ensures { OnOk result (epochs.new.items ≡ fold (with_item lives.now) epochs.old.items waiting.now.items) }
+{
+    for item in waiting.iter() {
+        add_item(epochs, lives, item)?;
+    }
+    Ok(())
 }

@@ -1,0 +1,43 @@
+-- How a hub is set up: the limits that it is held to, and what its planner makes of organisations.
+use Rattle.std.specs.Prelude.{ℕ, List, [], Option, Some, None, Result, Ok, Err}
+use Rattle.mail_plan.specs.Planning.{Input, first_directory}
+use Rattle.mail_plan.specs.declared.planner.OrgFault.{OrgFault}
+use Rattle.mail_plan.specs.declared.release.Release.{Release}
+use Rattle.hub_core.specs.declared.limits.Limits.{Limits}
+
+-- the texts of an organisation
+pub record Texts : Type 0 where
+  pub directory : List ℕ
+  pub rules : List ℕ
+
+abbrev pub texts_of : {Org : Type 0} → (Org → List ℕ) → (Org → List ℕ) → Org → Texts
+texts_of directory_of rules_of org = record { directory = directory_of org; rules = rules_of org }
+
+-- the organisation that stands before any other: it has no objects and no rules
+abbrev pub first_org : Texts
+first_org = record { directory = first_directory; rules = [] }
+
+-- the limits, the fault of texts that are no organisation's, and the release of an input by the organisation of texts
+pub record Setup : Type 0 where
+  pub limits : Limits
+  pub fault_of : Texts → Option OrgFault
+  pub release_of : Texts → Input → Release
+
+abbrev pub no_release : Release
+no_release = record { texts = []; items = []; holds = []; ends = [] }
+
+abbrev pub fault_in : {Org : Type 0} → Result Org OrgFault → Option OrgFault
+fault_in (Ok org) = None
+fault_in (Err fault) = Some fault
+
+abbrev pub release_in : {Org : Type 0} → (Org → Input → Release) → Result Org OrgFault → Input → Release
+release_in release_of (Ok org) input = release_of org input
+release_in release_of (Err fault) input = no_release
+
+-- the setup of a hub over a planner that reads organisations and makes releases so
+abbrev pub setup_of : {Org : Type 0} → (List ℕ → List ℕ → Result Org OrgFault) → (Org → Input → Release) → Limits → Setup
+setup_of reads release_of limits = record {
+  limits = limits;
+  fault_of = λ texts. fault_in (reads texts.directory texts.rules);
+  release_of = λ texts input. release_in release_of (reads texts.directory texts.rules) input;
+}
