@@ -1,5 +1,5 @@
 -- What an image stands for when a history or a shelf grows.
-use Rattle.std.proofs.Common.{◌≡◌, ◌⊎◌, ℕ, List, [], ◌∷◌, ◌++◌, refl, ap, ◌∙◌, sym, subst, inl, inr, arith, length-append, Result, Ok, Err}
+use Rattle.std.proofs.Common.{◌≡◌, ◌⊎◌, ℕ, List, [], ◌∷◌, ◌++◌, refl, ◌∙◌, sym, subst, inl, inr, arith, length-append, Result, Ok, Err}
 use Rattle.std.proofs.lemmas.List.{get_or_append_left}
 use Rattle.std.proofs.lemmas.List.Quantifiers.{Any-push}
 use Rattle.mail_names.specs.declared.name.ItemName.{ItemName}
@@ -11,61 +11,63 @@ use Rattle.plant_dev.specs.declared.plant.ShelfFault.TheVariants as faults
 use Rattle.plant_dev.specs.Disk.{Image}
 use Rattle.plant_dev.specs.Shelf.{Has, Puts, PutBy}
 use Rattle.queue_disk.specs.Log.{FileOf}
-use Rattle.hub_core.specs.declared.limits.Limits.{Limits}
+use Rattle.hub_core.specs.Setup.{Setup}
 use Rattle.hub_core.specs.declared.queue.QueuedItem.{QueuedItem}
 use Rattle.hub_core.specs.Items.{items, Among, IsDelivered, IsStep}
 use Rattle.hub_core.proofs.Prescribed.{older, history-push}
 use Rattle.queue_store.specs.Stands.{Stands, IsWithin, IsShelved, stored_of, item_from}
 use Rattle.queue_store.specs.Ready.{IsTrueOf}
 
-within_older : (h : List Entry) (e : Entry) (shelf : List Stored) → IsWithin h shelf → IsWithin (h ++ e ∷ []) shelf
-within_older h e [] within = tt
-within_older h e (stored ∷ shelf) within = (older h e (item_from stored) within.0, within_older h e shelf within.1)
+within_older : (setup : Setup) (h : List Entry) (e : Entry) (shelf : List Stored) → IsWithin setup h shelf → IsWithin setup (h ++ e ∷ []) shelf
+within_older setup h e [] within = tt
+within_older setup h e (stored ∷ shelf) within = (older setup h e (item_from stored) within.0, within_older setup h e shelf within.1)
 
-shelved_older : (h : List Entry) (e : Entry) (name : ItemName) (shelf : List Stored) → IsShelved h name shelf → IsShelved (h ++ e ∷ []) name shelf
-shelved_older h e name shelf s = record { item = s.item; among = older h e s.item s.among; named = s.named; there = s.there }
+shelved_older : (setup : Setup) (h : List Entry) (e : Entry) (name : ItemName) (shelf : List Stored) → IsShelved setup h name shelf → IsShelved setup (h ++ e ∷ []) name shelf
+shelved_older setup h e name shelf s = record { item = s.item; among = older setup h e s.item s.among; named = s.named; there = s.there }
 
 delivered_push : (h : List Entry) (e : Entry) (name : ItemName) → IsDelivered name (h ++ e ∷ []) → IsDelivered name h ⊎ IsDelivered name (e ∷ [])
 delivered_push [] e name d = inr d
 delivered_push (entries.Delivered other ∷ h) e name (inl same) = inl (inl same)
 delivered_push (entries.Delivered other ∷ h) e name (inr d) = elim (delivered_push h e name d) [ inl a ↦ inl (inr a) | inr b ↦ inr b ]
+delivered_push (entries.Organised directory rules ∷ h) e name d = delivered_push h e name d
 delivered_push (entries.Accepted m s ∷ h) e name d = delivered_push h e name d
 delivered_push (entries.Categorised n r p ∷ h) e name d = delivered_push h e name d
 delivered_push (entries.Moment m ∷ h) e name d = delivered_push h e name d
 
-delivered_one : (h : List Entry) (e : Entry) (name : ItemName) (shelf : List Stored) → IsTrueOf h e shelf → IsDelivered name (e ∷ []) → IsShelved h name shelf
-delivered_one h (entries.Delivered other) name shelf told (inl same) = subst (λ (n : ItemName). IsShelved h n shelf) (sym same) told
-delivered_one h (entries.Delivered other) name shelf told (inr none) = absurd none
-delivered_one h (entries.Accepted m s) name shelf told d = absurd d
-delivered_one h (entries.Categorised n r p) name shelf told d = absurd d
-delivered_one h (entries.Moment m) name shelf told d = absurd d
+delivered_one : (setup : Setup) (h : List Entry) (e : Entry) (name : ItemName) (shelf : List Stored) → IsTrueOf setup h e shelf → IsDelivered name (e ∷ []) → IsShelved setup h name shelf
+delivered_one setup h (entries.Delivered other) name shelf told (inl same) = subst (λ (n : ItemName). IsShelved setup h n shelf) (sym same) told
+delivered_one setup h (entries.Delivered other) name shelf told (inr none) = absurd none
+delivered_one setup h (entries.Organised directory rules) name shelf told d = absurd d
+delivered_one setup h (entries.Accepted m s) name shelf told d = absurd d
+delivered_one setup h (entries.Categorised n r p) name shelf told d = absurd d
+delivered_one setup h (entries.Moment m) name shelf told d = absurd d
 
-delivered_all : (h : List Entry) (e : Entry) (name : ItemName) (shelf : List Stored) → ((name : ItemName) → IsDelivered name h → IsShelved h name shelf) → IsTrueOf h e shelf →
-    IsDelivered name (h ++ e ∷ []) → IsShelved (h ++ e ∷ []) name shelf
-delivered_all h e name shelf all told d =
-    shelved_older h e name shelf (elim (delivered_push h e name d) [ inl a ↦ all name a | inr b ↦ delivered_one h e name shelf told b ])
+delivered_all : (setup : Setup) (h : List Entry) (e : Entry) (name : ItemName) (shelf : List Stored) → ((name : ItemName) → IsDelivered name h → IsShelved setup h name shelf) → IsTrueOf setup h e shelf →
+    IsDelivered name (h ++ e ∷ []) → IsShelved setup (h ++ e ∷ []) name shelf
+delivered_all setup h e name shelf all told d =
+    shelved_older setup h e name shelf (elim (delivered_push h e name d) [ inl a ↦ all name a | inr b ↦ delivered_one setup h e name shelf told b ])
 
 -- one entry more, over the same shelf
-pub stands-push : (limits : Limits) (c c' : Image) (h : List Entry) (e : Entry) → Stands limits c h → IsStep limits h e → IsTrueOf h e c.shelf → c'.shelf ≡ c.shelf → FileOf c'.file (h ++ e ∷ []) → Stands limits c' (h ++ e ∷ [])
-stands-push limits c c' h e stands step told same file = record {
-  history = history-push limits h e stands.history step;
+pub stands-push : (setup : Setup) (c c' : Image) (h : List Entry) (e : Entry) → Stands setup c h → IsStep setup h e → IsTrueOf setup h e c.shelf → c'.shelf ≡ c.shelf → FileOf c'.file (h ++ e ∷ []) → Stands setup c' (h ++ e ∷ [])
+stands-push setup c c' h e stands step told same file = record {
+  history = history-push setup h e stands.history step;
   file = file;
-  within = subst (λ (shelf : List Stored). IsWithin (h ++ e ∷ []) shelf) (sym same) (within_older h e c.shelf stands.within);
-  delivered = λ name d. subst (λ (shelf : List Stored). IsShelved (h ++ e ∷ []) name shelf) (sym same) (delivered_all h e name c.shelf stands.delivered told d);
+  within = subst (λ (shelf : List Stored). IsWithin setup (h ++ e ∷ []) shelf) (sym same) (within_older setup h e c.shelf stands.within);
+  delivered = λ name d. subst (λ (shelf : List Stored). IsShelved setup (h ++ e ∷ []) name shelf) (sym same) (delivered_all setup h e name c.shelf stands.delivered told d);
 }
 
 -- the same entries, over the same shelf
-pub stands-same : (limits : Limits) (c c' : Image) (h : List Entry) → Stands limits c h → c'.shelf ≡ c.shelf → FileOf c'.file h → Stands limits c' h
-stands-same limits c c' h stands same file = record {
+pub stands-same : (setup : Setup) (c c' : Image) (h : List Entry) → Stands setup c h → c'.shelf ≡ c.shelf → FileOf c'.file h → Stands setup c' h
+stands-same setup c c' h stands same file = record {
   history = stands.history;
   file = file;
-  within = subst (λ (shelf : List Stored). IsWithin h shelf) (sym same) stands.within;
-  delivered = λ name d. subst (λ (shelf : List Stored). IsShelved h name shelf) (sym same) (stands.delivered name d);
+  within = subst (λ (shelf : List Stored). IsWithin setup h shelf) (sym same) stands.within;
+  delivered = λ name d. subst (λ (shelf : List Stored). IsShelved setup h name shelf) (sym same) (stands.delivered name d);
 }
 
-within_more : (h : List Entry) (x : QueuedItem) (shelf : List Stored) → IsWithin h shelf → Among x (items h) → IsWithin h (shelf ++ stored_of x ∷ [])
-within_more h x [] within among = (among, tt)
-within_more h x (stored ∷ shelf) within among = (within.0, within_more h x shelf within.1 among)
+within_more : (setup : Setup) (h : List Entry) (x : QueuedItem) (shelf : List Stored) → IsWithin setup h shelf → Among x (items setup h) → IsWithin setup h (shelf ++ stored_of x ∷ [])
+within_more setup h x [] within among = (among, tt)
+within_more setup h x (stored ∷ shelf) within among = (within.0, within_more setup h x shelf within.1 among)
 
 has_more : (folder : List ℕ) (name : ItemName) (shelf : List Stored) (item : Stored) → Has folder name shelf → Has folder name (shelf ++ item ∷ [])
 has_more folder name shelf item (k, x, below, at, is) =
@@ -83,24 +85,24 @@ keeps_has : (item : Stored) (old after : List Stored) (folder : List ℕ) (name 
 keeps_has item old after folder name (inl there) has = subst (λ (shelf : List Stored). Has folder name shelf) (sym there.1) has
 keeps_has item old after folder name (inr comes) has = subst (λ (shelf : List Stored). Has folder name shelf) (sym comes.1) (has_more folder name old item has)
 
-keeps_within : (h : List Entry) (x : QueuedItem) (old after : List Stored) → Among x (items h) → Puts (stored_of x) old after → IsWithin h old → IsWithin h after
-keeps_within h x old after among (inl there) within = subst (λ (shelf : List Stored). IsWithin h shelf) (sym there.1) within
-keeps_within h x old after among (inr comes) within = subst (λ (shelf : List Stored). IsWithin h shelf) (sym comes.1) (within_more h x old within among)
+keeps_within : (setup : Setup) (h : List Entry) (x : QueuedItem) (old after : List Stored) → Among x (items setup h) → Puts (stored_of x) old after → IsWithin setup h old → IsWithin setup h after
+keeps_within setup h x old after among (inl there) within = subst (λ (shelf : List Stored). IsWithin setup h shelf) (sym there.1) within
+keeps_within setup h x old after among (inr comes) within = subst (λ (shelf : List Stored). IsWithin setup h shelf) (sym comes.1) (within_more setup h x old within among)
 
 -- a prescribed item was put
-pub stands-put : (limits : Limits) (c c' : Image) (h : List Entry) (x : QueuedItem) → Stands limits c h → Among x (items h) → c'.file ≡ c.file → Puts (stored_of x) c.shelf c'.shelf → Stands limits c' h
-stands-put limits c c' h x stands among same puts = record {
+pub stands-put : (setup : Setup) (c c' : Image) (h : List Entry) (x : QueuedItem) → Stands setup c h → Among x (items setup h) → c'.file ≡ c.file → Puts (stored_of x) c.shelf c'.shelf → Stands setup c' h
+stands-put setup c c' h x stands among same puts = record {
   history = stands.history;
   file = subst (λ (f : List ℕ). FileOf f h) (sym same) stands.file;
-  within = keeps_within h x c.shelf c'.shelf among puts stands.within;
+  within = keeps_within setup h x c.shelf c'.shelf among puts stands.within;
   delivered = λ name d. (let s = stands.delivered name d in
       record { item = s.item; among = s.among; named = s.named; there = keeps_has (stored_of x) c.shelf c'.shelf s.item.folder s.item.name puts s.there });
 }
 
 -- a prescribed item was put, or wasn't, whatever was answered
-pub stands-put-by : (limits : Limits) (result : Result (Unit {0}) ShelfFault) (c c' : Image) (h : List Entry) (x : QueuedItem) → Stands limits c h → Among x (items h) → c'.file ≡ c.file →
-    PutBy result (stored_of x) c.shelf c'.shelf → Stands limits c' h
-stands-put-by limits (Ok done) c c' h x stands among same by = stands-put limits c c' h x stands among same by
-stands-put-by limits (Err faults.Failed) c c' h x stands among same (inl kept) = stands-same limits c c' h stands kept (subst (λ (f : List ℕ). FileOf f h) (sym same) stands.file)
-stands-put-by limits (Err faults.Failed) c c' h x stands among same (inr puts) = stands-put limits c c' h x stands among same puts
-stands-put-by limits (Err faults.NoMemory) c c' h x stands among same kept = stands-same limits c c' h stands kept (subst (λ (f : List ℕ). FileOf f h) (sym same) stands.file)
+pub stands-put-by : (setup : Setup) (result : Result (Unit {0}) ShelfFault) (c c' : Image) (h : List Entry) (x : QueuedItem) → Stands setup c h → Among x (items setup h) → c'.file ≡ c.file →
+    PutBy result (stored_of x) c.shelf c'.shelf → Stands setup c' h
+stands-put-by setup (Ok done) c c' h x stands among same by = stands-put setup c c' h x stands among same by
+stands-put-by setup (Err faults.Failed) c c' h x stands among same (inl kept) = stands-same setup c c' h stands kept (subst (λ (f : List ℕ). FileOf f h) (sym same) stands.file)
+stands-put-by setup (Err faults.Failed) c c' h x stands among same (inr puts) = stands-put setup c c' h x stands among same puts
+stands-put-by setup (Err faults.NoMemory) c c' h x stands among same kept = stands-same setup c c' h stands kept (subst (λ (f : List ℕ). FileOf f h) (sym same) stands.file)

@@ -1,4 +1,5 @@
 pub mod Growing
 pub mod Opening
+pub mod Planning
 pub mod Stepping
 pub mod Turning

@@ -1,5 +1,5 @@
 -- Runs of calls: categorising place by place, and trying item by item.
-use Rattle.std.proofs.Common.{◌≡◌, ◌⊎◌, ℕ, suc, ◌+◌, ◌-◌, ◌^◌, ◌<◌, ◌≤◌, min, cond, Bool, true, false, List, [], ◌∷◌, ◌++◌, length, get_or, drop, refl, ap, ◌∙◌, sym, subst, arith, inl, inr, append_assoc, append-nil}
+use Rattle.std.proofs.Common.{◌≡◌, ℕ, suc, ◌+◌, ◌-◌, ◌<◌, ◌≤◌, cond, Bool, true, false, List, [], ◌∷◌, ◌++◌, length, get_or, drop, refl, ap, ◌∙◌, sym, subst, arith, append_assoc, append-nil}
 use Rattle.std.specs.Prelude.{fold, not}
 use Rattle.std.proofs.lemmas.List.{drop_more}
 use Rattle.std.proofs.lemmas.Grind.{fold-append}
@@ -7,8 +7,8 @@ use Rattle.mail_names.specs.declared.name.ItemName.{ItemName}
 use Rattle.mail_plan.specs.declared.entry.Entry.{Entry}
 use Rattle.port_io.specs.Causes.{Rose, RoseBy}
 use Rattle.plant_dev.specs.Disk.{State}
-use Rattle.hub_core.specs.declared.limits.Limits.{Limits}
-use Rattle.hub_core.specs.Standing.{Standing, start, standing, state_after}
+use Rattle.hub_core.specs.Setup.{Setup}
+use Rattle.hub_core.specs.Standing.{Standing, start, state_after}
 use Rattle.queue_store.specs.declared.fault.HubFault.{HubFault}
 use Rattle.queue_store.specs.declared.fault.HubFault.TheVariants as faults
 use Rattle.queue_store.specs.Room.{Fits, IsFull}
@@ -20,9 +20,9 @@ use Rattle.hub_core.specs.Standing.{now_of}
 use Rattle.queue_store.specs.Calls.{after_entries, entries_at, entries_all, entries_try, entries_tries, entries_turn, names_waiting, moment_entry, misses}
 
 -- the state goes on by what was added
-pub state-goes : (limits : Limits) (s s' : State) (hub hub' : Kept) (h es : List Entry) → IsReady limits s hub h → IsReady limits s' hub' (h ++ es) → hub'.state ≡ after_entries hub.state es
-state-goes limits s s' hub hub' h es before after =
-    after.state ∙ fold-append state_after (start limits) h es ∙ ap (λ (st : Standing). fold state_after st es) (sym before.state)
+pub state-goes : (setup : Setup) (s s' : State) (hub hub' : Kept) (h es : List Entry) → IsReady setup s hub h → IsReady setup s' hub' (h ++ es) → hub'.state ≡ after_entries hub.state es
+state-goes setup s s' hub hub' h es before after =
+    after.state ∙ fold-append state_after (start setup) h es ∙ ap (λ (st : Standing). fold state_after st es) (sym before.state)
 
 fits-joined : (most : ℕ) (h xs ys : List Entry) → Fits most h xs → Fits most (h ++ xs) ys → Fits most h (xs ++ ys)
 fits-joined most h [] ys first second = subst (λ (g : List Entry). Fits most g ys) (append-nil h) second
@@ -30,10 +30,10 @@ fits-joined most h (x ∷ xs) ys first second =
     (first.0, fits-joined most (h ++ x ∷ []) xs ys first.1 (subst (λ (g : List Entry). Fits most g ys) (sym (append_assoc h (x ∷ []) xs)) second))
 
 -- one run of entries behind another
-pub adds-joined : (limits : Limits) (s s' : State) (hub hub' : Kept) (h xs ys : List Entry) → Adds limits s hub h xs → Adds limits s' hub' (h ++ xs) ys → Adds limits s' hub' h (xs ++ ys)
-adds-joined limits s s' hub hub' h xs ys first second = record {
-  ready = subst (λ (g : List Entry). IsReady limits s' hub' g) (append_assoc h xs ys) second.ready;
-  fits = fits-joined limits.log h xs ys first.fits second.fits;
+pub adds-joined : (setup : Setup) (s s' : State) (hub hub' : Kept) (h xs ys : List Entry) → Adds setup s hub h xs → Adds setup s' hub' (h ++ xs) ys → Adds setup s' hub' h (xs ++ ys)
+adds-joined setup s s' hub hub' h xs ys first second = record {
+  ready = subst (λ (g : List Entry). IsReady setup s' hub' g) (append_assoc h xs ys) second.ready;
+  fits = fits-joined setup.limits.log h xs ys first.fits second.fits;
 }
 
 full-more : (most : ℕ) (h left rest : List Entry) (octets : ℕ) → IsFull most h left octets → IsFull most h (left ++ rest) octets
@@ -46,52 +46,54 @@ leaves-more most h left rest faults.NoMemory why = why
 leaves-more most h left rest (faults.QueueFull live bytes) why = why
 leaves-more most h left rest (faults.LogFull octets) why = full-more most h left rest octets why
 leaves-more most h left rest (faults.NotALog at) why = why
+leaves-more most h left rest (faults.Org fault) why = why
+leaves-more most h left rest (faults.EpochsFull live) why = why
 
 -- a run that stopped, where more was to come
-pub stops-more : (limits : Limits) (s : State) (hub : Kept) (h ys rest : List Entry) (e : HubFault) → Stops limits s hub h ys e → Stops limits s hub h (ys ++ rest) e
-stops-more limits s hub h ys rest e stops = record {
+pub stops-more : (setup : Setup) (s : State) (hub : Kept) (h ys rest : List Entry) (e : HubFault) → Stops setup s hub h ys e → Stops setup s hub h (ys ++ rest) e
+stops-more setup s hub h ys rest e stops = record {
   added = stops.added;
   left = stops.left ++ rest;
   whole = ap (λ (all : List Entry). all ++ rest) stops.whole ∙ append_assoc stops.added stops.left rest;
   adds = stops.adds;
-  why = leaves-more limits.log (h ++ stops.added) stops.left rest e stops.why;
+  why = leaves-more setup.limits.log (h ++ stops.added) stops.left rest e stops.why;
 }
 
 -- a run that stopped behind another, where more was to come
-pub stops-joined : (limits : Limits) (s s' : State) (hub hub' : Kept) (h xs ys rest : List Entry) (e : HubFault) → Adds limits s hub h xs → Stops limits s' hub' (h ++ xs) ys e →
-    Stops limits s' hub' h (xs ++ (ys ++ rest)) e
-stops-joined limits s s' hub hub' h xs ys rest e first stops = record {
+pub stops-joined : (setup : Setup) (s s' : State) (hub hub' : Kept) (h xs ys rest : List Entry) (e : HubFault) → Adds setup s hub h xs → Stops setup s' hub' (h ++ xs) ys e →
+    Stops setup s' hub' h (xs ++ (ys ++ rest)) e
+stops-joined setup s s' hub hub' h xs ys rest e first stops = record {
   added = xs ++ stops.added;
   left = stops.left ++ rest;
   whole =
       ap (λ (all : List Entry). xs ++ (all ++ rest)) stops.whole ∙ ap (λ (all : List Entry). xs ++ all) (append_assoc stops.added stops.left rest)
       ∙ sym (append_assoc xs stops.added (stops.left ++ rest));
-  adds = adds-joined limits s s' hub hub' h xs stops.added first stops.adds;
-  why = leaves-more limits.log (h ++ (xs ++ stops.added)) stops.left rest e
-      (subst (λ (g : List Entry). Leaves limits.log g stops.left e) (append_assoc h xs stops.added) stops.why);
+  adds = adds-joined setup s s' hub hub' h xs stops.added first stops.adds;
+  why = leaves-more setup.limits.log (h ++ (xs ++ stops.added)) stops.left rest e
+      (subst (λ (g : List Entry). Leaves setup.limits.log g stops.left e) (append_assoc h xs stops.added) stops.why);
 }
 
-pub all_step : (count place : ℕ) (s : Standing) → place < count →
-    entries_all (count - place) s place ≡ entries_at s place ++ entries_all (count - (place + 1)) (after_entries s (entries_at s place)) (place + 1)
-all_step count place s below =
+pub all_step : (setup : Setup) (count place : ℕ) (s : Standing) → place < count →
+    entries_all setup (count - place) s place ≡ entries_at setup s place ++ entries_all setup (count - (place + 1)) (after_entries s (entries_at setup s place)) (place + 1)
+all_step setup count place s below =
     let more : count - place ≡ suc (count - (place + 1)) = omega arith in
-    ap (λ n. entries_all n s place) more
+    ap (λ n. entries_all setup n s place) more
 
 -- one place more
-pub all_more : (count place : ℕ) (s s' : Standing) (done es whole : List Entry) → place < count → es ≡ entries_at s place → s' ≡ after_entries s es →
-    done ++ entries_all (count - place) s place ≡ whole → (done ++ es) ++ entries_all (count - (place + 1)) s' (place + 1) ≡ whole
-all_more count place s s' done es whole below is state so_far =
-    append_assoc done es (entries_all (count - (place + 1)) s' (place + 1))
-    ∙ ap (λ st. done ++ (es ++ entries_all (count - (place + 1)) st (place + 1))) state
-    ∙ ap (λ (xs : List Entry). done ++ (xs ++ entries_all (count - (place + 1)) (after_entries s xs) (place + 1))) is
-    ∙ ap (λ xs. done ++ xs) (sym (all_step count place s below)) ∙ so_far
+pub all_more : (setup : Setup) (count place : ℕ) (s s' : Standing) (done es whole : List Entry) → place < count → es ≡ entries_at setup s place → s' ≡ after_entries s es →
+    done ++ entries_all setup (count - place) s place ≡ whole → (done ++ es) ++ entries_all setup (count - (place + 1)) s' (place + 1) ≡ whole
+all_more setup count place s s' done es whole below is state so_far =
+    append_assoc done es (entries_all setup (count - (place + 1)) s' (place + 1))
+    ∙ ap (λ st. done ++ (es ++ entries_all setup (count - (place + 1)) st (place + 1))) state
+    ∙ ap (λ (xs : List Entry). done ++ (xs ++ entries_all setup (count - (place + 1)) (after_entries s xs) (place + 1))) is
+    ∙ ap (λ xs. done ++ xs) (sym (all_step setup count place s below)) ∙ so_far
 
 -- stopped at a place
-pub all_stopped : (count place : ℕ) (s : Standing) (done es whole : List Entry) → place < count → es ≡ entries_at s place →
-    done ++ entries_all (count - place) s place ≡ whole → done ++ (es ++ entries_all (count - (place + 1)) (after_entries s es) (place + 1)) ≡ whole
-all_stopped count place s done es whole below is so_far =
-    ap (λ (xs : List Entry). done ++ (xs ++ entries_all (count - (place + 1)) (after_entries s xs) (place + 1))) is
-    ∙ ap (λ xs. done ++ xs) (sym (all_step count place s below)) ∙ so_far
+pub all_stopped : (setup : Setup) (count place : ℕ) (s : Standing) (done es whole : List Entry) → place < count → es ≡ entries_at setup s place →
+    done ++ entries_all setup (count - place) s place ≡ whole → done ++ (es ++ entries_all setup (count - (place + 1)) (after_entries s es) (place + 1)) ≡ whole
+all_stopped setup count place s done es whole below is so_far =
+    ap (λ (xs : List Entry). done ++ (xs ++ entries_all setup (count - (place + 1)) (after_entries s xs) (place + 1))) is
+    ∙ ap (λ xs. done ++ xs) (sym (all_step setup count place s below)) ∙ so_far
 
 -- A front of the names was tried: what is left goes on from there.
 pub record Tried (s : Standing) (names : List ItemName) (puts : List Bool) (done : List Entry) (s' : Standing) (left : List ItemName) : Type 0 where

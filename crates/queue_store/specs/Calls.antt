@@ -5,11 +5,12 @@ use Rattle.mail_plan.specs.Submission.{Submitted}
 use Rattle.mail_plan.specs.declared.entry.Entry.{Entry}
 use Rattle.mail_plan.specs.declared.entry.Entry.TheVariants as entries
 use Rattle.hub_core.specs.declared.queue.QueuedItem.{QueuedItem}
-use Rattle.hub_core.specs.Release.{release_of}
 use Rattle.mail_plan.specs.declared.intake.Accepted.{Accepted}
-use Rattle.hub_core.specs.declared.command.Reply.{Reply}
 use Rattle.hub_core.specs.declared.command.Reply.TheVariants as replies
-use Rattle.hub_core.specs.Standing.{Standing, state_after, now_of, has_room, is_named, place_of_same, uncategorised_of, reply_submit}
+use Rattle.mail_plan.specs.Planning.{Input}
+use Rattle.hub_core.specs.Setup.{Texts, Setup}
+use Rattle.hub_core.specs.Standing.{Mail, Standing, state_after, now_of, has_room, is_named, place_of_same, input_of}
+use Rattle.hub_core.specs.Replies.{reply_submit}
 
 abbrev pub after_entries : Standing → List Entry → Standing
 after_entries s entries = fold state_after s entries
@@ -23,22 +24,31 @@ entries_new None s clock submission =
 abbrev pub entries_submit : Standing → ℕ → Submitted → List Entry
 entries_submit s clock submission = entries_new (place_of_same submission s.live) s clock submission
 
-abbrev pub entries_made : ℕ → Option Submitted → List Entry
-entries_made place None = []
-entries_made place (Some submission) = entries.Categorised (place + 1) 0 (release_of (place + 1) submission) ∷ []
+-- the release that the setup prescribes for an input by an organisation
+abbrev pub entries_made : Setup → Input → Texts → List Entry
+entries_made setup input org = entries.Categorised input.number 0 (setup.release_of org input) ∷ []
+
+abbrev pub entries_waiting : Setup → ℕ → Mail → Option Texts → List Entry
+entries_waiting setup number mail None = []
+entries_waiting setup number mail (Some org) = entries_made setup (input_of number mail) org
+
+abbrev pub entries_mail : Setup → ℕ → Option Mail → List Entry
+entries_mail setup number None = []
+entries_mail setup number (Some mail) = entries_waiting setup number mail mail.org
 
 -- what categorising the submission at a place adds: nothing where it is categorised
-abbrev pub entries_at : Standing → ℕ → List Entry
-entries_at s place = entries_made place (uncategorised_of (slice_get s.live place))
+abbrev pub entries_at : Setup → Standing → ℕ → List Entry
+entries_at setup s place = entries_mail setup (place + 1) (slice_get s.live place)
 
 -- what categorising at this many places adds, from a place on
-abbrev pub entries_all : ℕ → Standing → ℕ → List Entry
-entries_all zero s place = []
-entries_all (suc count) s place = entries_at s place ++ entries_all count (after_entries s (entries_at s place)) (place + 1)
+abbrev pub entries_all : Setup → ℕ → Standing → ℕ → List Entry
+entries_all setup zero s place = []
+entries_all setup (suc count) s place =
+    entries_at setup s place ++ entries_all setup count (after_entries s (entries_at setup s place)) (place + 1)
 
 -- what categorising all adds, by the numbers of the submissions
-abbrev pub entries_categorise : Standing → List Entry
-entries_categorise s = entries_all (length s.live) s 0
+abbrev pub entries_categorise : Setup → Standing → List Entry
+entries_categorise setup s = entries_all setup (length s.live) s 0
 
 abbrev pub entries_put : ItemName → Option QueuedItem → Bool → List Entry
 entries_put name None put = []
@@ -78,8 +88,8 @@ misses puts = count_by not puts
 -- The number that a submission is answered with is that of the one that it repeats, or else the next.
 abbrev pub IsAccepted : Standing → Submitted → Accepted → Type 0
 IsAccepted s submission accepted =
-    replies.Accepted accepted.number accepted.repeat ≡ reply_submit s submission (place_of_same submission s.live)
+    replies.Accepted accepted.number accepted.repeat ≡ reply_submit s submission
 
 -- The limits leave no room for a submission, beside so many and their octets.
 abbrev pub IsQueueFull : Standing → Submitted → ℕ → ℕ → Type 0
-IsQueueFull s submission live bytes = replies.QueueFull live bytes ≡ reply_submit s submission (place_of_same submission s.live)
+IsQueueFull s submission live bytes = replies.QueueFull live bytes ≡ reply_submit s submission

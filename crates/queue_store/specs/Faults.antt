@@ -12,10 +12,12 @@ fault_of (logs.NotALog at) = faults.NotALog at
 fault_of logs.NoMemory = faults.NoMemory
 fault_of (logs.LogFull length) = faults.LogFull length
 
--- and the faults of an intake by those of the hub
+-- and the faults of an intake by those of the hub; no submission meets those of an organisation
 abbrev pub refused : HubFault → IntakeFault
 refused faults.DiskFault = intakes.DiskFault
 refused faults.NoMemory = intakes.NoMemory
 refused (faults.QueueFull live bytes) = intakes.QueueFull live bytes
 refused (faults.LogFull length) = intakes.LogFull length
 refused (faults.NotALog at) = intakes.NotALog at
+refused (faults.Org fault) = intakes.NoMemory
+refused (faults.EpochsFull live) = intakes.NoMemory

@@ -1,12 +1,12 @@
 -- What an image of log file and shelf stands for.
-use Rattle.std.specs.Prelude.{◌≡◌, ℕ, List, [], ◌∷◌}
+use Rattle.std.specs.Prelude.{◌≡◌, List, [], ◌∷◌}
 use Rattle.mail_names.specs.declared.name.ItemName.{ItemName}
 use Rattle.mail_plan.specs.declared.entry.Entry.{Entry}
 use Rattle.plant_dev.specs.declared.plant.Stored.{Stored}
 use Rattle.plant_dev.specs.Disk.{Image}
 use Rattle.plant_dev.specs.Shelf.{Has, item_of}
 use Rattle.queue_disk.specs.Log.{FileOf}
-use Rattle.hub_core.specs.declared.limits.Limits.{Limits}
+use Rattle.hub_core.specs.Setup.{Setup}
 use Rattle.hub_core.specs.declared.queue.QueuedItem.{QueuedItem}
 use Rattle.hub_core.specs.Items.{items, Among, IsDelivered, IsHistory}
 
@@ -19,21 +19,21 @@ abbrev pub item_from : Stored → QueuedItem
 item_from stored = record { name = stored.name; folder = stored.folder; text = stored.bytes }
 
 -- Each item on the shelf is one that the history prescribes, in its folder and with its bytes.
-abbrev pub IsWithin : List Entry → List Stored → Type 0
-IsWithin h [] = Unit {0}
-IsWithin h (stored ∷ shelf) = Among (item_from stored) (items h) × IsWithin h shelf
+abbrev pub IsWithin : Setup → List Entry → List Stored → Type 0
+IsWithin setup h [] = Unit {0}
+IsWithin setup h (stored ∷ shelf) = Among (item_from stored) (items setup h) × IsWithin setup h shelf
 
 -- The history prescribes an item of this name, and it is on the shelf in its folder.
-pub record IsShelved (h : List Entry) (name : ItemName) (shelf : List Stored) : Type 0 where
+pub record IsShelved (setup : Setup) (h : List Entry) (name : ItemName) (shelf : List Stored) : Type 0 where
   pub item : QueuedItem
-  pub among : Among item (items h)
+  pub among : Among item (items setup h)
   pub named : item.name ≡ name
   pub there : Has item.folder item.name shelf
 
--- The file is the log of a history under these limits. Nothing is on the shelf but what the history prescribes, and what
+-- The file is the log of a history under this setup. Nothing is on the shelf but what the history prescribes, and what
 -- it says is delivered is there.
-pub record Stands (limits : Limits) (c : Image) (h : List Entry) : Type 0 where
-  pub history : IsHistory limits h
+pub record Stands (setup : Setup) (c : Image) (h : List Entry) : Type 0 where
+  pub history : IsHistory setup h
   pub file : FileOf c.file h
-  pub within : IsWithin h c.shelf
-  pub delivered : (name : ItemName) → IsDelivered name h → IsShelved h name c.shelf
+  pub within : IsWithin setup h c.shelf
+  pub delivered : (name : ItemName) → IsDelivered name h → IsShelved setup h name c.shelf

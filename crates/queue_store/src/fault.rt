@@ -1,5 +1,6 @@
 // Why a call of the hub is refused.
 use mail_names::NoMemory;
+use mail_plan::OrgFault;
 use queue_disk::LogFault;
 
 /// Why a call of the hub was refused.
@@ -14,6 +15,10 @@ pub enum HubFault {
     LogFull { length: u64 },
     /// The file is no log, first at this octet.
     NotALog { at: u64 },
+    /// The texts are no organisation's.
+    Org { fault: OrgFault },
+    /// So many organisations are live, and the limits leave no room for one more.
+    EpochsFull { live: u64 },
 }
 
 impl From<LogFault> for HubFault {

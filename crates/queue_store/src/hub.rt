@@ -5,14 +5,17 @@ ghost use Rattle.mail_plan.specs.declared.entry.Entry.TheVariants as entries;
 ghost use Rattle.mail_plan.specs.declared.entry.Entry.{Entry};
 ghost use Rattle.plant_dev.specs.Disk.{Stays};
 ghost use Rattle.hub_core.specs.declared.limits.Limits.{Limits};
+ghost use Rattle.hub_core.specs.Setup.{Setup, setup_of, texts_of};
 ghost use Rattle.hub_core.specs.Standing.{is_lawful, has_room, now_of, place_of_same};
+ghost use Rattle.mail_plan.specs.Planning.{is_release};
 
 mod delivery;
 mod opening;
+mod planning;
 
 use crate::HubFault;
 use hub_core::{State, StepFault};
-use mail_plan::{Accepted, Entry, Submission};
+use mail_plan::{Accepted, Entry, Outcome, Planner, Submission};
 use plant_dev::Plant;
 use port_io::Failed;
 use queue_disk::Log;
@@ -23,13 +26,13 @@ use std::marker::Model;
 ///
 /// After a `DiskFault` the next call first opens the log again.
 #[derive(Drop)]
-pub struct Hub {
-    state: State,
+pub struct Hub<T: Planner> {
+    state: State<T>,
     log: Log,
     broken: bool,
 }
 
-impl Model for Hub {
+impl<T: Planner> Model for Hub<T> {
     ghost use Rattle.queue_store.specs.Ready.{Kept};
 
     ghost Value = { Kept };
@@ -37,9 +40,10 @@ impl Model for Hub {
     ghost view = { λ h. record { state = h.state; log = h.log; broken = h.broken } };
 }
 
-impl Hub {
+impl<T: Planner> Hub<T> {
     ghost use Rattle.queue_store.specs.Ready.{IsReady, Follows, Adds, Declined};
     ghost use Rattle.queue_store.specs.Calls.{entries_submit, IsAccepted};
+    ghost use Rattle.queue_store.specs.Planning.{IsWaiting};
     ghost use Rattle.queue_store.specs.Refusals.{Refuses};
 
     // Opens the log again where a disk fault broke it off.
@@ -53,7 +57,7 @@ impl Hub {
         if !self.broken {
             return Ok(());
         }
-        let hub = Hub::open_hub(alloc, plant, self.state.limits())?;
+        let hub = Hub::<T>::open_hub(alloc, plant, self.state.limits())?;
         *self = hub;
         Ok(())
     }
@@ -65,11 +69,11 @@ impl Hub {
         plant: &mut P,
         entry: Entry,
     ) -> Result<(), HubFault>
-        requires { is_lawful self.old.state entry ≡ true }
-        ensures adds { (limits : Limits) (h : List Entry) → IsReady limits (P.state plant.old) self.old h → Follows limits h entry (P.state plant.old).image.shelf →
-            OnOk result (Adds limits (P.state plant.new) self.new h (entry ∷ [])) }
-        ensures declines { (limits : Limits) (h : List Entry) → IsReady limits (P.state plant.old) self.old h →
-            IfErr result (λ e. (e ≡ HubFault.DiskFault) ⊎ Declined limits (P.state plant.new) self.new h (entry ∷ []) e) }
+        requires { is_lawful (setup_of T.reads T.release_of self.old.state.limits) self.old.state entry ≡ true }
+        ensures adds { (setup : Setup) (h : List Entry) → IsReady setup (P.state plant.old) self.old h → Follows setup h entry (P.state plant.old).image.shelf →
+            OnOk result (Adds setup (P.state plant.new) self.new h (entry ∷ [])) }
+        ensures declines { (setup : Setup) (h : List Entry) → IsReady setup (P.state plant.old) self.old h →
+            IfErr result (λ e. (e ≡ HubFault.DiskFault) ⊎ Declined setup (P.state plant.new) self.new h (entry ∷ []) e) }
         ensures open { self.old.broken ≡ false → IsOk result → self.new.broken ≡ false }
         ensures shelf { IsTrue (P.state plant.old).honest → (P.state plant.new).image.shelf ≡ (P.state plant.old).image.shelf }
         ensures stays { Stays (P.state plant.old) (P.state plant.new) }
@@ -90,6 +94,35 @@ impl Hub {
         }
     }
 
+    // Adds the release of an outcome, which was made from what its submission waits with.
+    fn add_release<P: Plant>(
+        &mut self,
+        alloc: Global,
+        plant: &mut P,
+        outcome: Outcome<T>,
+    ) -> Result<(), HubFault>
+        requires { IsWaiting self.old.state outcome.1 (texts_of T.directory_of T.rules_of outcome.0) }
+        ensures prescribed { (limits : Limits) → outcome.2 ≡ (setup_of T.reads T.release_of limits).release_of (texts_of T.directory_of T.rules_of outcome.0) outcome.1 }
+        ensures adds { (limits : Limits) (h : List Entry) → IsReady (setup_of T.reads T.release_of limits) (P.state plant.old) self.old h →
+            OnOk result (Adds (setup_of T.reads T.release_of limits) (P.state plant.new) self.new h (entries.Categorised outcome.1.number 0 outcome.2 ∷ [])) }
+        ensures declines { (limits : Limits) (h : List Entry) → IsReady (setup_of T.reads T.release_of limits) (P.state plant.old) self.old h →
+            IfErr result (λ e. (e ≡ HubFault.DiskFault) ⊎ Declined (setup_of T.reads T.release_of limits) (P.state plant.new) self.new h (entries.Categorised outcome.1.number 0 outcome.2 ∷ []) e) }
+        ensures open { self.old.broken ≡ false → IsOk result → self.new.broken ≡ false }
+        ensures shelf { IsTrue (P.state plant.old).honest → (P.state plant.new).image.shelf ≡ (P.state plant.old).image.shelf }
+        ensures stays { Stays (P.state plant.old) (P.state plant.new) }
+        ensures cause { IsErrOf result HubFault.DiskFault → Rose (P.state plant.old).disk_faults (P.state plant.new).disk_faults }
+    {
+        prescribed_release(&outcome);
+        let number = outcome.input().number();
+        let plan = outcome.into_release();
+        let entry = Entry::Categorised {
+            number,
+            release: 0,
+            plan,
+        };
+        self.append(alloc, plant, entry)
+    }
+
     // Accepts a submission that repeats none.
     fn accept<P: Plant>(
         &mut self,
@@ -101,11 +134,11 @@ impl Hub {
         requires repeats_none { place_of_same submission self.old.state.live ≡ None }
         requires room { has_room self.old.state submission ≡ true }
         ensures accepted { IfOk result (λ accepted. accepted ≡ record { number = length self.old.state.live + 1; repeat = false }) }
-        ensures adds { (limits : Limits) (h : List Entry) → IsReady limits (P.state plant.old) self.old h →
-            OnOk result (Adds limits (P.state plant.new) self.new h (entries.Accepted (now_of self.old.state clock) submission ∷ [])) }
-        ensures declines { (limits : Limits) (h : List Entry) → IsReady limits (P.state plant.old) self.old h →
+        ensures adds { (setup : Setup) (h : List Entry) → IsReady setup (P.state plant.old) self.old h →
+            OnOk result (Adds setup (P.state plant.new) self.new h (entries.Accepted (now_of self.old.state clock) submission ∷ [])) }
+        ensures declines { (setup : Setup) (h : List Entry) → IsReady setup (P.state plant.old) self.old h →
             IfErr result (λ e. (e ≡ HubFault.DiskFault)
-            ⊎ Declined limits (P.state plant.new) self.new h (entries.Accepted (now_of self.old.state clock) submission ∷ []) e) }
+            ⊎ Declined setup (P.state plant.new) self.new h (entries.Accepted (now_of self.old.state clock) submission ∷ []) e) }
         ensures open { self.old.broken ≡ false → IsOk result → self.new.broken ≡ false }
         ensures shelf { IsTrue (P.state plant.old).honest → (P.state plant.new).image.shelf ≡ (P.state plant.old).image.shelf }
         ensures stays { Stays (P.state plant.old) (P.state plant.new) }
@@ -131,10 +164,10 @@ impl Hub {
         clock: u64,
     ) -> Result<Accepted, HubFault>
         ensures accepted { self.old.broken ≡ false → IfOk result (IsAccepted self.old.state submission) }
-        ensures adds { (limits : Limits) (h : List Entry) → IsReady limits (P.state plant.old) self.old h →
-            OnOk result (Adds limits (P.state plant.new) self.new h (entries_submit self.old.state clock submission)) }
-        ensures declines { (limits : Limits) (h : List Entry) → IsReady limits (P.state plant.old) self.old h →
-            IfErr result (λ e. (e ≡ HubFault.DiskFault) ⊎ Refuses limits (P.state plant.new) self.new h self.old.state submission clock e) }
+        ensures adds { (setup : Setup) (h : List Entry) → IsReady setup (P.state plant.old) self.old h →
+            OnOk result (Adds setup (P.state plant.new) self.new h (entries_submit self.old.state clock submission)) }
+        ensures declines { (setup : Setup) (h : List Entry) → IsReady setup (P.state plant.old) self.old h →
+            IfErr result (λ e. (e ≡ HubFault.DiskFault) ⊎ Refuses setup (P.state plant.new) self.new h self.old.state submission clock e) }
         // A log that a disk fault broke off was opened again.
         ensures open { IsOk result → self.new.broken ≡ false }
         ensures shelf { IsTrue (P.state plant.old).honest → (P.state plant.new).image.shelf ≡ (P.state plant.old).image.shelf }
@@ -161,11 +194,20 @@ impl Hub {
     pub fn next_number<P: Plant>(&mut self, alloc: Global, plant: &mut P) -> Result<u64, HubFault>
         ensures open { IsOk result → self.new.broken ≡ false }
         ensures number { self.old.broken ≡ false → IsOkAnd result (λ number. number ≡ length self.old.state.live + 1) }
-        ensures kept { (limits : Limits) (h : List Entry) → IsReady limits (P.state plant.old) self.old h → IsReady limits (P.state plant.new) self.new h }
+        ensures kept { (setup : Setup) (h : List Entry) → IsReady setup (P.state plant.old) self.old h → IsReady setup (P.state plant.new) self.new h }
         ensures stays { Stays (P.state plant.old) (P.state plant.new) }
         ensures cause { IsErrOf result HubFault.DiskFault → Rose (P.state plant.old).disk_faults (P.state plant.new).disk_faults }
     {
         self.mend(alloc, plant)?;
         Ok(self.state.next_number())
     }
+}
+
+// The release of an outcome is the one that is prescribed for its input, by its organisation's texts. The call does nothing.
+fn prescribed_release<T: Planner>(outcome: &Outcome<T>)
+    ensures value { (limits : Limits) → outcome.now.2 ≡ (setup_of T.reads T.release_of limits).release_of (texts_of T.directory_of T.rules_of outcome.now.0) outcome.now.1 }
+    ensures form { is_release outcome.now.1.number outcome.now.1.release outcome.now.2 ≡ true }
+{
+    let _texts = T::texts(outcome.org());
+    let _release = outcome.release();
 }

@@ -3,15 +3,15 @@ ghost use Rattle.std.specs.Prelude.{◌≡◌};
 ghost use Rattle.queue_store.specs.Faults.{refused};
 
 use crate::{Hub, HubFault};
-use mail_plan::{Accepted, Intake, IntakeFault, Submission};
+use mail_plan::{Accepted, Intake, IntakeFault, Planner, Submission};
 use plant_dev::Plant;
 use std::alloc::Global;
 
 /// A hub and its plant as an intake.
 #[derive(Drop)]
-pub struct LocalOffice<'a, P: Plant> {
+pub struct LocalOffice<'a, P: Plant, T: Planner> {
     pub alloc: Global,
-    pub hub: &'a mut Hub,
+    pub hub: &'a mut Hub<T>,
     pub plant: &'a mut P,
 }
 
@@ -24,10 +24,13 @@ fn refused(fault: HubFault) -> IntakeFault
         HubFault::QueueFull { live, bytes } => IntakeFault::QueueFull { live, bytes },
         HubFault::LogFull { length } => IntakeFault::LogFull { length },
         HubFault::NotALog { at } => IntakeFault::NotALog { at },
+        // No submission meets these.
+        HubFault::Org { .. } => IntakeFault::NoMemory,
+        HubFault::EpochsFull { .. } => IntakeFault::NoMemory,
     }
 }
 
-impl<P: Plant> Intake for LocalOffice<'_, P> {
+impl<P: Plant, T: Planner> Intake for LocalOffice<'_, P, T> {
     ghost use Rattle.queue_store.specs.Office.{Does};
     ghost use Rattle.std.specs.Prelude.{◌≡◌};
 

@@ -6,17 +6,18 @@ ghost use Rattle.plant_dev.specs.Disk.{Stays};
 ghost use Rattle.plant_dev.specs.Shelf.{Has};
 ghost use Rattle.hub_core.specs.Items.{items, Among};
 ghost use Rattle.hub_core.specs.declared.limits.Limits.{Limits};
+ghost use Rattle.hub_core.specs.Setup.{Setup, setup_of};
 ghost use Rattle.queue_store.specs.Ready.{Kept, IsReady, Adds, Declined, Stops};
 
 use super::Hub;
 use crate::HubFault;
-use hub_core::{QueuedItem, plan};
+use hub_core::QueuedItem;
 use mail_names::{ItemName, NoMemory};
-use mail_plan::Entry;
+use mail_plan::{Entry, Planner, plan};
 use plant_dev::{Plant, ShelfFault};
 use std::alloc::Global;
 
-impl Hub {
+impl<T: Planner> Hub<T> {
     ghost use Rattle.queue_store.specs.Calls.{entries_at, entries_categorise, entries_try, entries_tries, entries_turn, misses};
 
     // Categorises the submission at a place, unless it is.
@@ -27,25 +28,20 @@ impl Hub {
         place: usize,
     ) -> Result<(), HubFault>
         requires { place + 1 < 2 ^ 64 }
-        ensures adds { (limits : Limits) (h : List Entry) → IsReady limits (P.state plant.old) self.old h →
-            OnOk result (Adds limits (P.state plant.new) self.new h (entries_at self.old.state place)) }
-        ensures declines { (limits : Limits) (h : List Entry) → IsReady limits (P.state plant.old) self.old h →
-            IfErr result (λ e. (e ≡ HubFault.DiskFault) ⊎ Declined limits (P.state plant.new) self.new h (entries_at self.old.state place) e) }
+        ensures adds { (limits : Limits) (h : List Entry) → IsReady (setup_of T.reads T.release_of limits) (P.state plant.old) self.old h →
+            OnOk result (Adds (setup_of T.reads T.release_of limits) (P.state plant.new) self.new h (entries_at (setup_of T.reads T.release_of limits) self.old.state place)) }
+        ensures declines { (limits : Limits) (h : List Entry) → IsReady (setup_of T.reads T.release_of limits) (P.state plant.old) self.old h →
+            IfErr result (λ e. (e ≡ HubFault.DiskFault) ⊎ Declined (setup_of T.reads T.release_of limits) (P.state plant.new) self.new h (entries_at (setup_of T.reads T.release_of limits) self.old.state place) e) }
         ensures stays { Stays (P.state plant.old) (P.state plant.new) }
         ensures cause { IsErrOf result HubFault.DiskFault → Rose (P.state plant.old).disk_faults (P.state plant.new).disk_faults }
     {
-        match self.state.uncategorised(place) {
-            None => Ok(()),
-            Some(submission) => {
-                let number = place as u64 + 1;
-                let plan = plan(alloc, number, submission)?;
-                let entry = Entry::Categorised {
-                    number,
-                    release: 0,
-                    plan,
-                };
-                self.append(alloc, plant, entry)
-            }
+        match self.state.task_at(alloc, place) {
+            Err(NoMemory) => Err(HubFault::NoMemory),
+            Ok(None) => Ok(()),
+            Ok(Some(task)) => match plan(alloc, task) {
+                Err(NoMemory) => Err(HubFault::NoMemory),
+                Ok(outcome) => self.add_release(alloc, plant, outcome),
+            },
         }
     }
 
@@ -56,10 +52,10 @@ impl Hub {
         plant: &mut P,
         name: ItemName,
     ) -> Result<bool, HubFault>
-        ensures adds { (limits : Limits) (h : List Entry) → IsReady limits (P.state plant.old) self.old h →
-            IfOk result (λ put. Adds limits (P.state plant.new) self.new h (entries_try self.old.state name put)) }
-        ensures declines { (limits : Limits) (h : List Entry) → IsReady limits (P.state plant.old) self.old h →
-            IfErr result (λ e. (e ≡ HubFault.DiskFault) ⊎ Declined limits (P.state plant.new) self.new h (entries_try self.old.state name true) e) }
+        ensures adds { (setup : Setup) (h : List Entry) → IsReady setup (P.state plant.old) self.old h →
+            IfOk result (λ put. Adds setup (P.state plant.new) self.new h (entries_try self.old.state name put)) }
+        ensures declines { (setup : Setup) (h : List Entry) → IsReady setup (P.state plant.old) self.old h →
+            IfErr result (λ e. (e ≡ HubFault.DiskFault) ⊎ Declined setup (P.state plant.new) self.new h (entries_try self.old.state name true) e) }
         ensures missed { result ≡ Ok false → Rose (P.state plant.old).shelf_faults (P.state plant.new).shelf_faults }
         ensures stays { Stays (P.state plant.old) (P.state plant.new) }
         ensures cause { IsErrOf result HubFault.DiskFault → Rose (P.state plant.old).disk_faults (P.state plant.new).disk_faults }
@@ -79,10 +75,10 @@ impl Hub {
 
     // Categorises each submission that isn't, where the log is open.
     fn categorise_each<P: Plant>(&mut self, alloc: Global, plant: &mut P) -> Result<(), HubFault>
-        ensures adds { (limits : Limits) (h : List Entry) → IsReady limits (P.state plant.old) self.old h →
-            OnOk result (Adds limits (P.state plant.new) self.new h (entries_categorise self.old.state)) }
-        ensures stops { (limits : Limits) (h : List Entry) → IsReady limits (P.state plant.old) self.old h →
-            IfErr result (λ e. (e ≡ HubFault.DiskFault) ⊎ Stops limits (P.state plant.new) self.new h (entries_categorise self.old.state) e) }
+        ensures adds { (limits : Limits) (h : List Entry) → IsReady (setup_of T.reads T.release_of limits) (P.state plant.old) self.old h →
+            OnOk result (Adds (setup_of T.reads T.release_of limits) (P.state plant.new) self.new h (entries_categorise (setup_of T.reads T.release_of limits) self.old.state)) }
+        ensures stops { (limits : Limits) (h : List Entry) → IsReady (setup_of T.reads T.release_of limits) (P.state plant.old) self.old h →
+            IfErr result (λ e. (e ≡ HubFault.DiskFault) ⊎ Stops (setup_of T.reads T.release_of limits) (P.state plant.new) self.new h (entries_categorise (setup_of T.reads T.release_of limits) self.old.state) e) }
         ensures stays { Stays (P.state plant.old) (P.state plant.new) }
         ensures cause { IsErrOf result HubFault.DiskFault → Rose (P.state plant.old).disk_faults (P.state plant.new).disk_faults }
     {
@@ -98,10 +94,10 @@ impl Hub {
 
     /// Categorises each submission that isn't, in the order of their numbers.
     pub fn categorise_all<P: Plant>(&mut self, alloc: Global, plant: &mut P) -> Result<(), HubFault>
-        ensures adds { (limits : Limits) (h : List Entry) → IsReady limits (P.state plant.old) self.old h →
-            OnOk result (Adds limits (P.state plant.new) self.new h (entries_categorise self.old.state)) }
-        ensures stops { (limits : Limits) (h : List Entry) → IsReady limits (P.state plant.old) self.old h →
-            IfErr result (λ e. (e ≡ HubFault.DiskFault) ⊎ Stops limits (P.state plant.new) self.new h (entries_categorise self.old.state) e) }
+        ensures adds { (limits : Limits) (h : List Entry) → IsReady (setup_of T.reads T.release_of limits) (P.state plant.old) self.old h →
+            OnOk result (Adds (setup_of T.reads T.release_of limits) (P.state plant.new) self.new h (entries_categorise (setup_of T.reads T.release_of limits) self.old.state)) }
+        ensures stops { (limits : Limits) (h : List Entry) → IsReady (setup_of T.reads T.release_of limits) (P.state plant.old) self.old h →
+            IfErr result (λ e. (e ≡ HubFault.DiskFault) ⊎ Stops (setup_of T.reads T.release_of limits) (P.state plant.new) self.new h (entries_categorise (setup_of T.reads T.release_of limits) self.old.state) e) }
         ensures stays { Stays (P.state plant.old) (P.state plant.new) }
         ensures cause { IsErrOf result HubFault.DiskFault → Rose (P.state plant.old).disk_faults (P.state plant.new).disk_faults }
     {
@@ -116,12 +112,12 @@ impl Hub {
         plant: &mut P,
         names: &[ItemName],
     ) -> Result<(), HubFault>
-        ensures adds { (limits : Limits) (h : List Entry) → IsReady limits (P.state plant.old) self.old h → OnOk result ((puts : List Bool)
-            × Adds limits (P.state plant.new) self.new h (entries_tries self.old.state names.now puts)
+        ensures adds { (setup : Setup) (h : List Entry) → IsReady setup (P.state plant.old) self.old h → OnOk result ((puts : List Bool)
+            × Adds setup (P.state plant.new) self.new h (entries_tries self.old.state names.now puts)
             × RoseBy (misses puts) (P.state plant.old).shelf_faults (P.state plant.new).shelf_faults) }
-        ensures stops { (limits : Limits) (h : List Entry) → IsReady limits (P.state plant.old) self.old h →
+        ensures stops { (setup : Setup) (h : List Entry) → IsReady setup (P.state plant.old) self.old h →
             IfErr result (λ e. (e ≡ HubFault.DiskFault) ⊎ ((puts : List Bool)
-            × Stops limits (P.state plant.new) self.new h (entries_tries self.old.state names.now puts) e
+            × Stops setup (P.state plant.new) self.new h (entries_tries self.old.state names.now puts) e
             × RoseBy (misses puts) (P.state plant.old).shelf_faults (P.state plant.new).shelf_faults)) }
         ensures stays { Stays (P.state plant.old) (P.state plant.new) }
         ensures cause { IsErrOf result HubFault.DiskFault → Rose (P.state plant.old).disk_faults (P.state plant.new).disk_faults }
@@ -143,12 +139,12 @@ impl Hub {
         clock: u64,
     ) -> Result<(), HubFault>
         requires { 0 < length self.old.state.waiting }
-        ensures adds { (limits : Limits) (h : List Entry) → IsReady limits (P.state plant.old) self.old h → OnOk result ((puts : List Bool)
-            × Adds limits (P.state plant.new) self.new h (entries_turn self.old.state clock puts)
+        ensures adds { (setup : Setup) (h : List Entry) → IsReady setup (P.state plant.old) self.old h → OnOk result ((puts : List Bool)
+            × Adds setup (P.state plant.new) self.new h (entries_turn self.old.state clock puts)
             × RoseBy (misses puts) (P.state plant.old).shelf_faults (P.state plant.new).shelf_faults) }
-        ensures stops { (limits : Limits) (h : List Entry) → IsReady limits (P.state plant.old) self.old h →
+        ensures stops { (setup : Setup) (h : List Entry) → IsReady setup (P.state plant.old) self.old h →
             IfErr result (λ e. (e ≡ HubFault.DiskFault) ⊎ ((puts : List Bool)
-            × Stops limits (P.state plant.new) self.new h (entries_turn self.old.state clock puts) e
+            × Stops setup (P.state plant.new) self.new h (entries_turn self.old.state clock puts) e
             × RoseBy (misses puts) (P.state plant.old).shelf_faults (P.state plant.new).shelf_faults)) }
         ensures stays { Stays (P.state plant.old) (P.state plant.new) }
         ensures cause { IsErrOf result HubFault.DiskFault → Rose (P.state plant.old).disk_faults (P.state plant.new).disk_faults }
@@ -172,12 +168,12 @@ impl Hub {
         plant: &mut P,
         clock: u64,
     ) -> Result<(), HubFault>
-        ensures adds { (limits : Limits) (h : List Entry) → IsReady limits (P.state plant.old) self.old h → OnOk result ((puts : List Bool)
-            × Adds limits (P.state plant.new) self.new h (entries_turn self.old.state clock puts)
+        ensures adds { (setup : Setup) (h : List Entry) → IsReady setup (P.state plant.old) self.old h → OnOk result ((puts : List Bool)
+            × Adds setup (P.state plant.new) self.new h (entries_turn self.old.state clock puts)
             × RoseBy (misses puts) (P.state plant.old).shelf_faults (P.state plant.new).shelf_faults) }
-        ensures stops { (limits : Limits) (h : List Entry) → IsReady limits (P.state plant.old) self.old h →
+        ensures stops { (setup : Setup) (h : List Entry) → IsReady setup (P.state plant.old) self.old h →
             IfErr result (λ e. (e ≡ HubFault.DiskFault) ⊎ ((puts : List Bool)
-            × Stops limits (P.state plant.new) self.new h (entries_turn self.old.state clock puts) e
+            × Stops setup (P.state plant.new) self.new h (entries_turn self.old.state clock puts) e
             × RoseBy (misses puts) (P.state plant.old).shelf_faults (P.state plant.new).shelf_faults)) }
         ensures stays { Stays (P.state plant.old) (P.state plant.new) }
         ensures cause { IsErrOf result HubFault.DiskFault → Rose (P.state plant.old).disk_faults (P.state plant.new).disk_faults }
@@ -192,7 +188,7 @@ impl Hub {
 
 // Puts an item into its folder. The answer is false where the shelf failed.
 fn shelve<P: Plant>(alloc: Global, plant: &mut P, item: &QueuedItem) -> Result<bool, HubFault>
-    ensures ready { (limits : Limits) (h : List Entry) (hub : Kept) → IsReady limits (P.state plant.old) hub h → Among item.now (items h) → IsReady limits (P.state plant.new) hub h }
+    ensures ready { (setup : Setup) (h : List Entry) (hub : Kept) → IsReady setup (P.state plant.old) hub h → Among item.now (items setup h) → IsReady setup (P.state plant.new) hub h }
     ensures there { IsTrue (P.state plant.old).honest → result ≡ Ok true → Has item.now.folder item.now.name (P.state plant.new).image.shelf }
     ensures missed { result ≡ Ok false → Rose (P.state plant.old).shelf_faults (P.state plant.new).shelf_faults }
     ensures only { IfErr result (λ e. e ≡ HubFault.NoMemory) }

@@ -6,6 +6,7 @@ ghost use Rattle.plant_dev.specs.Disk.{Stays, Reads};
 ghost use Rattle.queue_disk.specs.Log.{FileOf, log_of};
 ghost use Rattle.queue_disk.specs.Reading.{IsHeld, IsRead, Begins};
 ghost use Rattle.hub_core.specs.declared.limits.Limits.{Limits};
+ghost use Rattle.hub_core.specs.Setup.{setup_of};
 ghost use Rattle.hub_core.specs.Standing.{standing, state_after, is_lawful};
 ghost use Rattle.hub_core.specs.Items.{IsHistory};
 ghost use Rattle.queue_store.specs.Opening.{OpenFault};
@@ -13,12 +14,12 @@ ghost use Rattle.queue_store.specs.Opening.{OpenFault};
 use super::Hub;
 use crate::HubFault;
 use hub_core::{Limits, State, StepFault};
-use mail_plan::Entry;
+use mail_plan::{Entry, Planner};
 use plant_dev::Plant;
 use queue_disk::{Log, open_log};
 use std::alloc::Global;
 
-impl Hub {
+impl<T: Planner> Hub<T> {
     ghost use Rattle.queue_store.specs.Stands.{Stands};
     ghost use Rattle.queue_store.specs.Ready.{IsReady};
 
@@ -26,12 +27,16 @@ impl Hub {
     ///
     /// `NotALog` names the first octet at which the file is no log, or the gate of the first entry that can't stand
     /// behind those before it. What lies behind the first closed gate is ignored.
-    pub fn open_hub<P: Plant>(alloc: Global, plant: &mut P, limits: Limits) -> Result<Hub, HubFault>
-        ensures ready { (h : List Entry) → IsTrue (P.state plant.old).honest → Stands limits (P.state plant.old).image h →
-            IfOk result (λ hub. IsReady limits (P.state plant.new) hub h) }
-        ensures never { (h : List Entry) → IsTrue (P.state plant.old).honest → IsHistory limits h → FileOf (P.state plant.old).image.file h →
+    pub fn open_hub<P: Plant>(
+        alloc: Global,
+        plant: &mut P,
+        limits: Limits,
+    ) -> Result<Hub<T>, HubFault>
+        ensures ready { (h : List Entry) → IsTrue (P.state plant.old).honest → Stands (setup_of T.reads T.release_of limits) (P.state plant.old).image h →
+            IfOk result (λ hub. IsReady (setup_of T.reads T.release_of limits) (P.state plant.new) hub h) }
+        ensures never { (h : List Entry) → IsTrue (P.state plant.old).honest → IsHistory (setup_of T.reads T.release_of limits) h → FileOf (P.state plant.old).image.file h →
             IfErr result (λ e. (e ≡ HubFault.DiskFault) ⊎ (e ≡ HubFault.NoMemory)) }
-        ensures bad { IsTrue (P.state plant.old).honest → IfErr result (λ e. OpenFault limits (P.state plant.old).image.file e) }
+        ensures bad { IsTrue (P.state plant.old).honest → IfErr result (λ e. OpenFault (setup_of T.reads T.release_of limits) (P.state plant.old).image.file e) }
         ensures open { IfOk result (λ hub. hub.broken ≡ false) }
         ensures shelf { IsTrue (P.state plant.old).honest → (P.state plant.new).image.shelf ≡ (P.state plant.old).image.shelf }
         ensures stays { Stays (P.state plant.old) (P.state plant.new) }
@@ -48,10 +53,15 @@ impl Hub {
 }
 
 // Goes on by an entry that was read behind the gate at this place.
-fn go_on(alloc: Global, state: &mut State, entry: Entry, gate: u64) -> Result<(), HubFault>
+fn go_on<T: Planner>(
+    alloc: Global,
+    state: &mut State<T>,
+    entry: Entry,
+    gate: u64,
+) -> Result<(), HubFault>
     ensures goes { OnOk result (state.new ≡ state_after state.old entry) }
-    ensures lawful_alone { OnOk result (is_lawful state.old entry ≡ true) }
-    ensures lawful { is_lawful state.old entry ≡ true → IfErr result (λ e. e ≡ HubFault.NoMemory) }
+    ensures lawful_alone { (limits : Limits) → OnOk result (is_lawful (setup_of T.reads T.release_of limits) state.old entry ≡ true) }
+    ensures lawful { (limits : Limits) → is_lawful (setup_of T.reads T.release_of limits) state.old entry ≡ true → IfErr result (λ e. e ≡ HubFault.NoMemory) }
     ensures only { IfErr result (λ e. (e ≡ HubFault.NoMemory) ⊎ (e ≡ HubFault.NotALog gate)) }
 {
     match state.apply(alloc, entry) {
@@ -62,26 +72,26 @@ fn go_on(alloc: Global, state: &mut State, entry: Entry, gate: u64) -> Result<()
 }
 
 // Reads the log to its closed gate, and gives the state of its entries.
-fn replay<P: Plant>(
+fn replay<P: Plant, T: Planner>(
     alloc: Global,
     plant: &mut P,
     limits: Limits,
     log: &mut Log,
-) -> Result<State, HubFault>
+) -> Result<State<T>, HubFault>
     ensures stays { Stays (P.state plant.old) (P.state plant.new) }
     ensures cause { IsErrOf result HubFault.DiskFault → Rose (P.state plant.old).disk_faults (P.state plant.new).disk_faults }
     ensures reads { IsTrue (P.state plant.old).honest → Reads (P.state plant.old) (P.state plant.new) }
     ensures most { log.new.most ≡ log.old.most }
     ensures state { (h : List Entry) → IsTrue (P.state plant.old).honest → IsRead (P.state plant.old).image.file h [] log.old →
-        IfOk result (λ state. state ≡ standing limits h) }
+        IfOk result (λ state. state ≡ standing (setup_of T.reads T.release_of limits) h) }
     ensures end { (h : List Entry) → IsTrue (P.state plant.old).honest → IsRead (P.state plant.old).image.file h [] log.old →
         OnOk result (log.new.place ≡ length (log_of h)) }
-    ensures never { (h : List Entry) → IsTrue (P.state plant.old).honest → IsHistory limits h → IsRead (P.state plant.old).image.file h [] log.old →
+    ensures never { (h : List Entry) → IsTrue (P.state plant.old).honest → IsHistory (setup_of T.reads T.release_of limits) h → IsRead (P.state plant.old).image.file h [] log.old →
         IfErr result (λ e. (e ≡ HubFault.DiskFault) ⊎ (e ≡ HubFault.NoMemory)) }
     ensures bad { IsTrue (P.state plant.old).honest → IsHeld (P.state plant.old).image.file log.old → Begins (P.state plant.old).image.file [] log.old.place →
-        IfErr result (λ e. OpenFault limits (P.state plant.old).image.file e) }
+        IfErr result (λ e. OpenFault (setup_of T.reads T.release_of limits) (P.state plant.old).image.file e) }
 {
-    let mut state = State::start(alloc, limits);
+    let mut state = State::start(alloc, limits)?;
     while let Some(entry) = log.next(alloc, plant)? {
         go_on(alloc, &mut state, entry, log.gate())?;
     }

@@ -1,4 +1,4 @@
-use Rattle.std.proofs.Common.{◌≡◌, ◌+◌, ◌≤◌, ◌∙◌, sym, ap, subst, inr, arith}
+use Rattle.std.proofs.Common.{◌∙◌, sym, ap, subst, inr, arith}
 use Rattle.plant_dev.proofs.Moments.{stays_honest}
 use Rattle.queue_disk.specs.Log.{IsOpen}
 use Rattle.hub_core.specs.Standing.{Standing, state_after}
@@ -11,7 +11,7 @@ use Rattle.queue_store.proofs.Stepping.{handed, framed-leaves}
 use Rattle.queue_store.proofs.hub.Hub.append.Goals as goal
 
 pub returns-in-Ok-write-clause-adds : goal.returns-in-Ok-write-clause-adds
-returns-in-Ok-write-clause-adds g c limits h ready follows =
+returns-in-Ok-write-clause-adds g c setup h ready follows =
     let s0 = g.P.Plant.state c.args.plant.now in
     let s1 = g.P.Plant.state c.write.new.plant in
     let entry = c.args.entry in
@@ -23,17 +23,17 @@ returns-in-Ok-write-clause-adds g c limits h ready follows =
       ready = record {
         honest = stays_honest s0 s1 c.write.ensures.stays ready.honest;
         whole = ap (λ (k : Kept). k.broken) c.self.view_is ∙ ready.whole;
-        state = c.in-Ok.ensures.ok ∙ ap (λ (s : Standing). state_after s entry) (ap (λ (k : Kept). k.state) c.self.view_is ∙ ready.state) ∙ sym (standing-push limits h entry);
+        state = c.in-Ok.ensures.1 ∙ ap (λ (s : Standing). state_after s entry) (ap (λ (k : Kept). k.state) c.self.view_is ∙ ready.state) ∙ sym (standing-push setup h entry);
         most = c.write.ensures.most ∙ most;
         log = done;
-        stands = stands-push limits s0.image s1.image h entry ready.stands follows.0 follows.1 (c.in-Ok-write.ensures.shelf ready.honest) (inr done.file);
+        stands = stands-push setup s0.image s1.image h entry ready.stands follows.0 follows.1 (c.in-Ok-write.ensures.shelf ready.honest) (inr done.file);
       };
       fits = (omega (arith, room, log.at, most), tt);
     }
 
 pub returns-in_err-framed-clause-declines : goal.returns-in_err-framed-clause-declines
-returns-in_err-framed-clause-declines g c limits h ready =
+returns-in_err-framed-clause-declines g c setup h ready =
     let place = ap (λ (k : Kept). k.log.place) c.self.view_is ∙ ready.log.at in
     let most = ap (λ (k : Kept). k.log.most) c.self.view_is ∙ ready.most in
-    let why = framed-leaves Framed h c.args.entry c.self.inside.log.place c.self.inside.log.most limits.log c.in_err-framed.field-0.0 place most c.in_err-framed.ensures.faults c.in_err-framed.ensures.full in
+    let why = framed-leaves Framed h c.args.entry c.self.inside.log.place c.self.inside.log.most setup.limits.log c.in_err-framed.field-0.0 place most c.in_err-framed.ensures.faults c.in_err-framed.ensures.full in
     handed _ (fault_of c.in_err-framed.field-0.0) c.from_residual.result c.from_residual.ensures.1 (inr (record { ready = ready; why = why }))

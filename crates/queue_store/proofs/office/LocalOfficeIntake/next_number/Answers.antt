@@ -1,4 +1,4 @@
-use Rattle.std.proofs.Common.{◌≡◌, refl, ap, sym, subst, Err}
+use Rattle.std.proofs.Common.{refl, ap, sym, subst, Err}
 use Rattle.mail_plan.specs.declared.intake.IntakeFault.{IntakeFault}
 use Rattle.queue_store.specs.Office.{Counts}
 use Rattle.queue_store.proofs.Stepping.{counts_err}
