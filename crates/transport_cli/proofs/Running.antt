@@ -4,7 +4,7 @@ use Rattle.port_io.specs.Causes.{Rose, RoseBy}
 use Rattle.mail_plan.specs.declared.entry.Entry.{Entry}
 use Rattle.port_io.specs.Told.{Gave}
 use Rattle.plant_dev.specs.Disk.{State, Image}
-use Rattle.hub_core.specs.Standing.{standing, usual}
+use Rattle.hub_core.specs.Standing.{standing}
 use Rattle.queue_store.specs.declared.fault.HubFault.{HubFault}
 use Rattle.queue_store.specs.declared.fault.HubFault.TheVariants as faults
 use Rattle.queue_store.specs.Calls.{misses}
@@ -13,6 +13,7 @@ use Rattle.smtp_front.specs.declared.session_end.SessionEnd.{SessionEnd}
 use Rattle.smtp_front.specs.declared.session_end.SessionEnd.TheVariants as ends
 use Rattle.transport_cli.specs.declared.status.Status.{Status}
 use Rattle.transport_cli.specs.declared.status.Status.TheVariants as statuses
+use Rattle.transport_cli.specs.HubSetup.{hub_setup}
 use Rattle.transport_cli.specs.Run.{entries_finish, CutShort, Starved, Overfull, Finishes, Ends, refused}
 
 -- a rise within a longer time
@@ -52,7 +53,7 @@ ends_within ends.DeskFull h then now f0 f1 f2 image status first t = t
 ends_within ends.TooLong h then now f0 f1 f2 image status first t = t
 
 short_of : (h : List Entry) (then now : ℕ → Option ℕ) (f f' : ℕ) (turn : ℕ) (puts : List Bool) (s : State) (hub : Kept) (e : HubFault) (Why : List Entry → List Entry → Type 0) →
-    (stops : Stops usual s hub h (entries_finish (standing usual h) turn puts) e) → Why (h ++ stops.added) stops.left → Gave then now [] ⊎ Gave then now (turn ∷ []) → RoseBy (misses puts) f f' →
+    (stops : Stops hub_setup s hub h (entries_finish (standing hub_setup h) turn puts) e) → Why (h ++ stops.added) stops.left → Gave then now [] ⊎ Gave then now (turn ∷ []) → RoseBy (misses puts) f f' →
     CutShort h then now f f' s.image Why
 short_of h then now f f' turn puts s hub e Why stops why clock missed = record {
   turn = turn;
@@ -69,15 +70,17 @@ short_of h then now f f' turn puts s hub e Why stops why clock missed = record {
 
 -- Categorising or the turn stopped with a fault.
 pub cut_finish : (h : List Entry) (then now : ℕ → Option ℕ) (f f' : ℕ) (turn : ℕ) (puts : List Bool) (s : State) (hub : Kept) (e : HubFault) →
-    Stops usual s hub h (entries_finish (standing usual h) turn puts) e → Gave then now [] ⊎ Gave then now (turn ∷ []) → RoseBy (misses puts) f f' → Finishes h then now f f' s.image (refused e)
+    Stops hub_setup s hub h (entries_finish (standing hub_setup h) turn puts) e → Gave then now [] ⊎ Gave then now (turn ∷ []) → RoseBy (misses puts) f f' → Finishes h then now f f' s.image (refused e)
 cut_finish h then now f f' turn puts s hub faults.DiskFault stops clock missed = absurd stops.why
 cut_finish h then now f f' turn puts s hub faults.NoMemory stops clock missed = short_of h then now f f' turn puts s hub faults.NoMemory Starved stops tt clock missed
 cut_finish h then now f f' turn puts s hub (faults.QueueFull live bytes) stops clock missed = absurd stops.why
+cut_finish h then now f f' turn puts s hub (faults.Org fault) stops clock missed = absurd stops.why
+cut_finish h then now f f' turn puts s hub (faults.EpochsFull live) stops clock missed = absurd stops.why
 cut_finish h then now f f' turn puts s hub (faults.LogFull octets) stops clock missed =
     short_of h then now f f' turn puts s hub (faults.LogFull octets) Overfull stops (octets, stops.why) clock missed
 cut_finish h then now f f' turn puts s hub (faults.NotALog at) stops clock missed = absurd stops.why
 
 pub cut_status : (h : List Entry) (then now : ℕ → Option ℕ) (f f' : ℕ) (turn : ℕ) (puts : List Bool) (s : State) (hub : Kept) (e : HubFault) (status : Status) → status ≡ refused e →
-    Stops usual s hub h (entries_finish (standing usual h) turn puts) e → Gave then now [] ⊎ Gave then now (turn ∷ []) → RoseBy (misses puts) f f' → Finishes h then now f f' s.image status
+    Stops hub_setup s hub h (entries_finish (standing hub_setup h) turn puts) e → Gave then now [] ⊎ Gave then now (turn ∷ []) → RoseBy (misses puts) f f' → Finishes h then now f f' s.image status
 cut_status h then now f f' turn puts s hub e status is stops clock missed =
     subst (λ (x : Status). Finishes h then now f f' s.image x) (sym is) (cut_finish h then now f f' turn puts s hub e stops clock missed)

@@ -9,7 +9,7 @@ use Rattle.mail_plan.specs.declared.intake.IntakeStep.{IntakeStep}
 use Rattle.mail_plan.specs.declared.intake.IntakeStep.TheVariants as steps
 use Rattle.plant_dev.specs.Disk.{State, Stays as PlantStays}
 use Rattle.plant_dev.proofs.Moments.{stays_not, stays_more}
-use Rattle.hub_core.specs.Standing.{Standing, standing, usual}
+use Rattle.hub_core.specs.Standing.{Standing, standing}
 use Rattle.queue_store.specs.Ready.{Kept, IsReady, Adds}
 use Rattle.queue_store.specs.Room.{IsFull}
 use Rattle.queue_store.specs.Calls.{entries_submit, IsAccepted, IsQueueFull}
@@ -22,6 +22,7 @@ use Rattle.smtp_front.specs.Events.{Held, nothing, fed}
 use Rattle.smtp_front.specs.Turns.{Turn, Steps, Did, end_at}
 use Rattle.smtp_front.specs.Sessions.{Stays, Waits, Closes, Begins, Halts, Breaks, Starves, BreaksStarving, Overruns, BreaksOverrunning, Rests, WentOn, Greets, BreaksGreeting, Spoke}
 use Rattle.transport_cli.specs.Answers.{HistoryGives}
+use Rattle.transport_cli.specs.HubSetup.{hub_setup}
 
 rose_later : (a m b : ℕ) → Rose a m → m ≤ b → Rose a b
 rose_later a m b rose later = omega (arith, rose, later)
@@ -33,7 +34,7 @@ module _ {I : Type 0} (gives : I → IntakeStep → I → Type 0) (state : I →
     (does : (a : I) (step : IntakeStep) (b : I) → gives a step b → Does (state a) (hub a) step (state b) (hub b)) where
   -- the office stands for the history
   abbrev At : I → List Entry → Type 0
-  At a h = IsReady usual (state a) (hub a) h
+  At a h = IsReady hub_setup (state a) (hub a) h
 
   -- no disk fault is counted from one to the other
   abbrev Quiet : I → I → Type 0
@@ -46,31 +47,31 @@ module _ {I : Type 0} (gives : I → IntakeStep → I → Type 0) (state : I →
 
   step_done : (a b : I) (step : IntakeStep) (h : List Entry) → Does (state a) (hub a) step (state b) (hub b) → At a h → Quiet a b → Goes h b (λ h'. HistoryGives h step h')
   step_done a b (steps.Submit submission clock (Ok accepted)) h d at quiet =
-      let adds = subst (λ (s : Standing). Adds usual (state b) (hub b) h (entries_submit s clock submission)) at.state (d.does.adds usual h at) in
+      let adds = subst (λ (s : Standing). Adds hub_setup (state b) (hub b) h (entries_submit s clock submission)) at.state (d.does.adds hub_setup h at) in
       record {
-        h' = h ++ entries_submit (standing usual h) clock submission;
-        told = (subst (λ (s : Standing). IsAccepted s submission accepted) at.state (d.does.answer usual h at), refl, adds.fits);
+        h' = h ++ entries_submit (standing hub_setup h) clock submission;
+        told = (subst (λ (s : Standing). IsAccepted s submission accepted) at.state (d.does.answer hub_setup h at), refl, adds.fits);
         at = adds.ready;
       }
   step_done a b (steps.Submit submission clock (Err faults.DiskFault)) h d at quiet = absurd (quiet d.does)
-  step_done a b (steps.Submit submission clock (Err faults.NoMemory)) h d at quiet = record { h' = h; told = refl; at = d.does usual h at }
+  step_done a b (steps.Submit submission clock (Err faults.NoMemory)) h d at quiet = record { h' = h; told = refl; at = d.does hub_setup h at }
   step_done a b (steps.Submit submission clock (Err (faults.QueueFull live bytes))) h d at quiet =
-      record { h' = h; told = (refl, subst (λ (s : Standing). IsQueueFull s submission live bytes) at.state (d.does.why usual h at)); at = d.does.ready usual h at }
+      record { h' = h; told = (refl, subst (λ (s : Standing). IsQueueFull s submission live bytes) at.state (d.does.why hub_setup h at)); at = d.does.ready hub_setup h at }
   step_done a b (steps.Submit submission clock (Err (faults.LogFull octets))) h d at quiet = record {
     h' = h;
-    told = (refl, subst (λ (s : Standing). IsFull usual.log h (entries_submit s clock submission) octets) at.state (d.does.why usual h at));
-    at = d.does.ready usual h at;
+    told = (refl, subst (λ (s : Standing). IsFull hub_setup.limits.log h (entries_submit s clock submission) octets) at.state (d.does.why hub_setup h at));
+    at = d.does.ready hub_setup h at;
   }
-  step_done a b (steps.Submit submission clock (Err (faults.NotALog place))) h d at quiet = absurd (d.does usual h at)
+  step_done a b (steps.Submit submission clock (Err (faults.NotALog place))) h d at quiet = absurd (d.does hub_setup h at)
   step_done a b (steps.Submit submission clock (Err (faults.DeskFull calls))) h d at quiet = absurd d.does
   step_done a b (steps.NextNumber (Ok number)) h d at quiet =
-      record { h' = h; told = (refl, subst (λ (s : Standing). number ≡ length s.live + 1) at.state (d.does.why usual h at)); at = d.does.ready usual h at }
+      record { h' = h; told = (refl, subst (λ (s : Standing). number ≡ length s.live + 1) at.state (d.does.why hub_setup h at)); at = d.does.ready hub_setup h at }
   step_done a b (steps.NextNumber (Err faults.DiskFault)) h d at quiet = absurd (quiet d.does)
-  step_done a b (steps.NextNumber (Err faults.NoMemory)) h d at quiet = absurd (d.does usual h at)
-  step_done a b (steps.NextNumber (Err (faults.QueueFull live bytes))) h d at quiet = absurd (d.does usual h at)
-  step_done a b (steps.NextNumber (Err (faults.LogFull octets))) h d at quiet = absurd (d.does usual h at)
-  step_done a b (steps.NextNumber (Err (faults.NotALog place))) h d at quiet = absurd (d.does usual h at)
-  step_done a b (steps.NextNumber (Err (faults.DeskFull calls))) h d at quiet = absurd (d.does usual h at)
+  step_done a b (steps.NextNumber (Err faults.NoMemory)) h d at quiet = absurd (d.does hub_setup h at)
+  step_done a b (steps.NextNumber (Err (faults.QueueFull live bytes))) h d at quiet = absurd (d.does hub_setup h at)
+  step_done a b (steps.NextNumber (Err (faults.LogFull octets))) h d at quiet = absurd (d.does hub_setup h at)
+  step_done a b (steps.NextNumber (Err (faults.NotALog place))) h d at quiet = absurd (d.does hub_setup h at)
+  step_done a b (steps.NextNumber (Err (faults.DeskFull calls))) h d at quiet = absurd (d.does hub_setup h at)
 
   later : (steps : List IntakeStep) (a b : I) → Steps gives a steps b → (state a).disk_faults ≤ (state b).disk_faults
   later [] a b e = subst (λ (x : I). (state a).disk_faults ≤ (state x).disk_faults) e (omega arith)
@@ -237,8 +238,8 @@ module _ {I : Type 0} (gives : I → IntakeStep → I → Type 0) (state : I →
 
   -- A session over the office is one over the history that it stands for.
   pub spoke_told : (end : SessionEnd) (a b : I) (old new : ℕ → Option ℕ) (taken now before left : Option (List ℕ)) (h : List Entry) →
-      Spoke gives a b old new taken now before left end → IsReady usual (state a) (hub a) h → (Rose (state a).disk_faults (state b).disk_faults → ⊥) →
-      (h' : List Entry) × Spoke HistoryGives h h' old new taken now before left end × IsReady usual (state b) (hub b) h'
+      Spoke gives a b old new taken now before left end → IsReady hub_setup (state a) (hub a) h → (Rose (state a).disk_faults (state b).disk_faults → ⊥) →
+      (h' : List Entry) × Spoke HistoryGives h h' old new taken now before left end × IsReady hub_setup (state b) (hub b) h'
   spoke_told end a b old new taken now before left h s at quiet =
       let t = spoke_goes end a b old new taken now before left h s at quiet in (t.h', t.told, t.at)
 

@@ -1,2 +1,3 @@
+pub mod HubSetup
 pub mod Answers
 pub mod Run

@@ -5,7 +5,7 @@ use Rattle.port_io.specs.Causes.{RoseBy}
 use Rattle.port_io.specs.Told.{Gave}
 use Rattle.mail_plan.specs.declared.entry.Entry.{Entry}
 use Rattle.plant_dev.specs.Disk.{Image}
-use Rattle.hub_core.specs.Standing.{Standing, standing, usual}
+use Rattle.hub_core.specs.Standing.{Standing, standing}
 use Rattle.queue_store.specs.declared.fault.HubFault.{HubFault}
 use Rattle.queue_store.specs.declared.fault.HubFault.TheVariants as faults
 use Rattle.queue_store.specs.Room.{Fits, IsFull}
@@ -20,10 +20,11 @@ use Rattle.org_check.specs.Check.{Checks}
 use Rattle.transport_cli.specs.declared.status.Status.{Status}
 use Rattle.transport_cli.specs.declared.status.Status.TheVariants as statuses
 use Rattle.transport_cli.specs.Answers.{HistoryGives}
+use Rattle.transport_cli.specs.HubSetup.{hub_setup}
 
 -- All is categorised, and then comes a turn at this clock, in which the puts went so.
 abbrev pub entries_finish : Standing → ℕ → List Bool → List Entry
-entries_finish s clock puts = entries_categorise s ++ entries_turn (after_entries s (entries_categorise s)) clock puts
+entries_finish s clock puts = entries_categorise hub_setup s ++ entries_turn (after_entries s (entries_categorise hub_setup s)) clock puts
 
 -- All was categorised and a turn was made: the image stands for the history with their entries, each of which had room
 -- in the log, and as many puts failed as the count of the shelf's faults rose at most.
@@ -31,8 +32,8 @@ pub record Turned (h : List Entry) (then now : ℕ → Option ℕ) (faults fault
   pub turn : ℕ
   pub puts : List Bool
   pub clock : Gave then now (turn ∷ [])
-  pub stands : Stands usual image (h ++ entries_finish (standing usual h) turn puts)
-  pub fits : Fits usual.log h (entries_finish (standing usual h) turn puts)
+  pub stands : Stands hub_setup image (h ++ entries_finish (standing hub_setup h) turn puts)
+  pub fits : Fits hub_setup.limits.log h (entries_finish (standing hub_setup h) turn puts)
   pub missed : RoseBy (misses puts) faults faults'
 
 -- Categorising or the turn was cut short: the image stands for the history with some of their entries, and the others
@@ -43,9 +44,9 @@ pub record CutShort (h : List Entry) (then now : ℕ → Option ℕ) (faults fau
   pub added : List Entry
   pub left : List Entry
   pub clock : Gave then now [] ⊎ Gave then now (turn ∷ [])
-  pub whole : entries_finish (standing usual h) turn puts ≡ added ++ left
-  pub stands : Stands usual image (h ++ added)
-  pub fits : Fits usual.log h added
+  pub whole : entries_finish (standing hub_setup h) turn puts ≡ added ++ left
+  pub stands : Stands hub_setup image (h ++ added)
+  pub fits : Fits hub_setup.limits.log h added
   pub why : Why (h ++ added) left
   pub missed : RoseBy (misses puts) faults faults'
 
@@ -55,7 +56,7 @@ Starved h left = Unit {0}
 
 -- the next entry has no room in the log
 abbrev pub Overfull : List Entry → List Entry → Type 0
-Overfull h left = (octets : ℕ) × IsFull usual.log h left octets
+Overfull h left = (octets : ℕ) × IsFull hub_setup.limits.log h left octets
 
 -- how a session ended that was read to its end or to QUIT, by the status of what followed
 abbrev pub Finishes : List Entry → (ℕ → Option ℕ) → (ℕ → Option ℕ) → ℕ → ℕ → Image → Status → Type 0
@@ -64,11 +65,13 @@ Finishes h then now faults faults' image statuses.NoMemory = CutShort h then now
 Finishes h then now faults faults' image statuses.LogFull = CutShort h then now faults faults' image Overfull
 Finishes h then now faults faults' image status = ⊥
 
--- The status of a call that the hub refused. Only a submission meets a full queue.
+-- The status of a call that the hub refused. Only a submission meets a full queue, and no command has an organisation yet.
 abbrev pub refused : HubFault → Status
 refused faults.DiskFault = statuses.DiskFault
 refused faults.NoMemory = statuses.NoMemory
 refused (faults.QueueFull live bytes) = statuses.NoMemory
+refused (faults.Org fault) = statuses.NoMemory
+refused (faults.EpochsFull live) = statuses.NoMemory
 refused (faults.LogFull octets) = statuses.LogFull
 refused (faults.NotALog at) = statuses.NotALog
 
@@ -89,7 +92,7 @@ status_of ends.TooLong = statuses.TooLong
 pub record Stops (h : List Entry) (then now : ℕ → Option ℕ) (image : Image) (end : SessionEnd) (status : Status) : Type 0 where
   pub status_is : status ≡ status_of end
   pub clock : Gave then now []
-  pub stands : Stands usual image h
+  pub stands : Stands hub_setup image h
 
 -- what follows a session that ended so
 abbrev pub Ends : SessionEnd → List Entry → (ℕ → Option ℕ) → (ℕ → Option ℕ) → ℕ → ℕ → Image → Status → Type 0

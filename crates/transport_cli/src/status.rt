@@ -65,8 +65,11 @@ pub fn refused(fault: HubFault) -> Status
 {
     match fault {
         HubFault::DiskFault => Status::DiskFault,
-        // Only a submission meets a full queue, and it has a reply of its own.
-        HubFault::NoMemory | HubFault::QueueFull { .. } => Status::NoMemory,
+        // Only a submission meets a full queue, and it has a reply of its own. No command has an organisation yet.
+        HubFault::NoMemory
+        | HubFault::QueueFull { .. }
+        | HubFault::Org { .. }
+        | HubFault::EpochsFull { .. } => Status::NoMemory,
         HubFault::LogFull { .. } => Status::LogFull,
         HubFault::NotALog { .. } => Status::NotALog,
     }

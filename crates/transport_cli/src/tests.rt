@@ -4,6 +4,7 @@ ghost use Rattle.std.specs.Prelude.{◌<◌};
 use crate::status::Status;
 use crate::transport::transport;
 use hub_core::Limits;
+use hub_planner::HubPlanner;
 use mail_names::{Bytes, ItemName, Items, Key, Mark};
 use mail_plan::{Origin, Submission};
 use plant_dev::{MemoryPlant, Plant};
@@ -191,7 +192,7 @@ fn a_full_queue(rt: HostRuntime) -> Result<(), Fail> {
         live: 1,
         ..Limits::usual()
     };
-    let mut hub = Hub::open_hub(alloc, &mut plant, limits).map_err(|_| "opens")?;
+    let mut hub = Hub::<HubPlanner>::open_hub(alloc, &mut plant, limits).map_err(|_| "opens")?;
     for (text, answer) in [
         (b"Message-Id: <1@a>\r\n\r\n".as_slice(), Ok((1, false))),
         (

@@ -4,7 +4,7 @@ ghost use Rattle.std.specs.Io.KnownBytes.{Appends};
 ghost use Rattle.port_io.specs.Causes.{Rose};
 ghost use Rattle.mail_plan.specs.declared.entry.Entry.{Entry};
 ghost use Rattle.plant_dev.specs.Disk.{Stays};
-ghost use Rattle.hub_core.specs.Standing.{usual};
+ghost use Rattle.transport_cli.specs.HubSetup.{hub_setup};
 ghost use Rattle.queue_store.specs.Stands.{Stands};
 ghost use Rattle.queue_store.specs.Ready.{IsReady};
 ghost use Rattle.smtp_front.specs.Sessions.{Spoke};
@@ -13,6 +13,7 @@ ghost use Rattle.transport_cli.specs.Run.{Checked, Ends, Finishes, Ran, is_check
 
 use crate::status::{Status, checked, ended, refused};
 use hub_core::Limits;
+use hub_planner::HubPlanner;
 use org_check::check;
 use plant_dev::Plant;
 use port_io::{Clock, Sink, Source, write_all_to};
@@ -26,16 +27,16 @@ const USAGE: &[u8] =
 // A session on a hub and a plant that are lent.
 fn speak<P: Plant, S: Source, K: Sink, C: Clock>(
     alloc: Global,
-    office: &mut LocalOffice<'_, P>,
+    office: &mut LocalOffice<'_, P, HubPlanner>,
     source: &mut S,
     sink: &mut K,
     clock: &mut C,
 ) -> SessionEnd
     ensures same { (office.new.hub.ghost_name ≡ office.old.hub.ghost_name) × (office.new.plant.ghost_name ≡ office.old.plant.ghost_name) }
-    ensures spoke { (h : List Entry) → IsReady usual (P.state office.old.plant.now) office.old.hub.now h →
+    ensures spoke { (h : List Entry) → IsReady hub_setup (P.state office.old.plant.now) office.old.hub.now h →
         (Rose (P.state office.old.plant.now).disk_faults (P.state office.new.plant.now).disk_faults → ⊥) →
         (h' : List Entry) × Spoke HistoryGives h h' (C.moments clock.old) (C.moments clock.new) (K.taken sink.old) (K.taken sink.new) (S.left source.old) (S.left source.new) result
-        × IsReady usual (P.state office.new.plant.now) office.new.hub.now h' }
+        × IsReady hub_setup (P.state office.new.plant.now) office.new.hub.now h' }
     ensures stays { Stays (P.state office.old.plant.now) (P.state office.new.plant.now) }
     ensures source { result ≡ SessionEnd.SourceFault → Rose (S.faults source.old) (S.faults source.new) }
     ensures sink { result ≡ SessionEnd.SinkFault → Rose (K.faults sink.old) (K.faults sink.new) }
@@ -46,15 +47,15 @@ fn speak<P: Plant, S: Source, K: Sink, C: Clock>(
 // A session on the hub.
 fn converse<P: Plant, S: Source, K: Sink, C: Clock>(
     alloc: Global,
-    hub: &mut Hub,
+    hub: &mut Hub<HubPlanner>,
     plant: &mut P,
     source: &mut S,
     sink: &mut K,
     clock: &mut C,
 ) -> SessionEnd
-    ensures spoke { (h : List Entry) → IsReady usual (P.state plant.old) hub.old h → (Rose (P.state plant.old).disk_faults (P.state plant.new).disk_faults → ⊥) →
+    ensures spoke { (h : List Entry) → IsReady hub_setup (P.state plant.old) hub.old h → (Rose (P.state plant.old).disk_faults (P.state plant.new).disk_faults → ⊥) →
         (h' : List Entry) × Spoke HistoryGives h h' (C.moments clock.old) (C.moments clock.new) (K.taken sink.old) (K.taken sink.new) (S.left source.old) (S.left source.new) result
-        × IsReady usual (P.state plant.new) hub.new h' }
+        × IsReady hub_setup (P.state plant.new) hub.new h' }
     ensures stays { Stays (P.state plant.old) (P.state plant.new) }
     ensures source { result ≡ SessionEnd.SourceFault → Rose (S.faults source.old) (S.faults source.new) }
     ensures sink { result ≡ SessionEnd.SinkFault → Rose (K.faults sink.old) (K.faults sink.new) }
@@ -64,8 +65,13 @@ fn converse<P: Plant, S: Source, K: Sink, C: Clock>(
 }
 
 // Categorises all, and makes a turn.
-fn finish<P: Plant, C: Clock>(alloc: Global, hub: &mut Hub, plant: &mut P, clock: &mut C) -> Status
-    ensures finishes { (h : List Entry) → IsReady usual (P.state plant.old) hub.old h → (Rose (P.state plant.old).disk_faults (P.state plant.new).disk_faults → ⊥) →
+fn finish<P: Plant, C: Clock>(
+    alloc: Global,
+    hub: &mut Hub<HubPlanner>,
+    plant: &mut P,
+    clock: &mut C,
+) -> Status
+    ensures finishes { (h : List Entry) → IsReady hub_setup (P.state plant.old) hub.old h → (Rose (P.state plant.old).disk_faults (P.state plant.new).disk_faults → ⊥) →
         Finishes h (C.moments clock.old) (C.moments clock.new) (P.state plant.old).shelf_faults (P.state plant.new).shelf_faults (P.state plant.new).image result }
     ensures stays { Stays (P.state plant.old) (P.state plant.new) }
     ensures disk { result ≡ Status.DiskFault → Rose (P.state plant.old).disk_faults (P.state plant.new).disk_faults }
@@ -87,12 +93,12 @@ fn finish<P: Plant, C: Clock>(alloc: Global, hub: &mut Hub, plant: &mut P, clock
 // What follows a session that ended so.
 fn follow<P: Plant, C: Clock>(
     alloc: Global,
-    hub: &mut Hub,
+    hub: &mut Hub<HubPlanner>,
     plant: &mut P,
     clock: &mut C,
     end: SessionEnd,
 ) -> Status
-    ensures ends { (h : List Entry) → IsReady usual (P.state plant.old) hub.old h → (Rose (P.state plant.old).disk_faults (P.state plant.new).disk_faults → ⊥) →
+    ensures ends { (h : List Entry) → IsReady hub_setup (P.state plant.old) hub.old h → (Rose (P.state plant.old).disk_faults (P.state plant.new).disk_faults → ⊥) →
         Ends end h (C.moments clock.old) (C.moments clock.new) (P.state plant.old).shelf_faults (P.state plant.new).shelf_faults (P.state plant.new).image result }
     ensures stays { Stays (P.state plant.old) (P.state plant.new) }
     ensures disk { result ≡ Status.DiskFault → Rose (P.state plant.old).disk_faults (P.state plant.new).disk_faults }
@@ -115,17 +121,17 @@ fn run_session<P: Plant, S: Source, K: Sink, C: Clock>(
     plant: &mut P,
     clock: &mut C,
 ) -> Status
-    ensures ran { (h : List Entry) → IsTrue (P.state plant.old).honest → Stands usual (P.state plant.old).image h → (Rose (P.state plant.old).disk_faults (P.state plant.new).disk_faults → ⊥) →
+    ensures ran { (h : List Entry) → IsTrue (P.state plant.old).honest → Stands hub_setup (P.state plant.old).image h → (Rose (P.state plant.old).disk_faults (P.state plant.new).disk_faults → ⊥) →
         (result ≡ Status.NoMemory) ⊎ Ran h (C.moments clock.old) (C.moments clock.new) (K.taken sink.old) (K.taken sink.new) (S.left source.old) (S.left source.new)
         (P.state plant.old).shelf_faults (P.state plant.new).shelf_faults (P.state plant.new).image result }
-    ensures log { (h : List Entry) → IsTrue (P.state plant.old).honest → Stands usual (P.state plant.old).image h → (Rose (P.state plant.old).disk_faults (P.state plant.new).disk_faults → ⊥) →
+    ensures log { (h : List Entry) → IsTrue (P.state plant.old).honest → Stands hub_setup (P.state plant.old).image h → (Rose (P.state plant.old).disk_faults (P.state plant.new).disk_faults → ⊥) →
         result ≡ Status.NotALog → ⊥ }
     ensures disk { result ≡ Status.DiskFault → Rose (P.state plant.old).disk_faults (P.state plant.new).disk_faults }
     ensures source { result ≡ Status.SourceFault → Rose (S.faults source.old) (S.faults source.new) }
     ensures sink { result ≡ Status.SinkFault → Rose (K.faults sink.old) (K.faults sink.new) }
     ensures usage { result ≡ Status.Usage → ⊥ }
 {
-    match Hub::open_hub(alloc, plant, Limits::usual()) {
+    match Hub::<HubPlanner>::open_hub(alloc, plant, Limits::usual()) {
         Err(fault) => refused(fault),
         Ok(hub) => {
             let mut hub = hub;
@@ -182,12 +188,12 @@ pub fn transport<S: Source, K: Sink, P: Plant, C: Clock>(
 ) -> Status
     // Where no disk fault is counted, a session over an honest plant that stands for a history does what the definitions
     // say from there, and the plant stands for the history that it leaves.
-    ensures session { (h : List Entry) → is_session (map (λ word. word.now) words.now) ≡ true → IsTrue (P.state plant.old).honest → Stands usual (P.state plant.old).image h →
+    ensures session { (h : List Entry) → is_session (map (λ word. word.now) words.now) ≡ true → IsTrue (P.state plant.old).honest → Stands hub_setup (P.state plant.old).image h →
         (Rose (P.state plant.old).disk_faults (P.state plant.new).disk_faults → ⊥) →
         (result ≡ Status.NoMemory) ⊎ Ran h (C.moments clock.old) (C.moments clock.new) (K.taken sink.old) (K.taken sink.new) (S.left source.old) (S.left source.new)
         (P.state plant.old).shelf_faults (P.state plant.new).shelf_faults (P.state plant.new).image result }
     // Nor is a log told as none where the plant stands for a history.
-    ensures log { (h : List Entry) → IsTrue (P.state plant.old).honest → Stands usual (P.state plant.old).image h →
+    ensures log { (h : List Entry) → IsTrue (P.state plant.old).honest → Stands hub_setup (P.state plant.old).image h →
         (Rose (P.state plant.old).disk_faults (P.state plant.new).disk_faults → ⊥) → result ≡ Status.NotALog → ⊥ }
     // A check says what its definition says.
     ensures check { is_check (map (λ word. word.now) words.now) ≡ true →

@@ -1,0 +1,9 @@
+-- How the hub of the program is set up.
+use Rattle.hub_core.specs.Setup.{Setup, setup_of}
+use Rattle.hub_core.specs.Standing.{usual}
+use Rattle.categorizer.specs.Organisation.{organisation_of}
+use Rattle.categorizer.specs.Releasing.{hub_release}
+
+-- Organisations are read and releases are made by the categorizer, under the program's limits.
+abbrev pub hub_setup : Setup
+hub_setup = setup_of organisation_of hub_release usual
