@@ -1,7 +1,7 @@
 -- An entry by its kind.
 use Rattle.std.proofs.Common.{◌≡◌, ℕ, List, [], ◌∷◌, arith, ap}
-use Rattle.mail_plan.specs.EntryText.{le64, form_name, form_organised, form_accepted, form_categorised, entry_text}
-use Rattle.mail_plan.specs.Entries.{IsOrganised, IsAccepted, IsCategorised, IsEntry}
+use Rattle.mail_plan.specs.EntryText.{le64, form_name, form_organised, form_accepted, form_categorised, form_decided, entry_text}
+use Rattle.mail_plan.specs.Entries.{IsOrganised, IsAccepted, IsCategorised, IsDecided, IsEntry}
 use Rattle.mail_plan.specs.Reading.{Stands, OneForm}
 use Rattle.mail_plan.specs.declared.entry.Entry.TheVariants as entries
 use Rattle.mail_plan.proofs.Standing.{There, first, same, behind}
@@ -18,6 +18,7 @@ pub tagged : (bytes : List ℕ) (at : ℕ) → HasPart IsByte form_byte IsEntry 
 tagged bytes at (entries.Organised d r) end is stands = (1, omega arith, first (1 ∷ []) (form_organised (d, r)) bytes at end stands)
 tagged bytes at (entries.Accepted m s) end is stands = (2, omega arith, first (2 ∷ []) (form_accepted (m, s)) bytes at end stands)
 tagged bytes at (entries.Categorised n j plan) end is stands = (3, omega arith, first (3 ∷ []) (form_categorised (n, j, plan)) bytes at end stands)
+tagged bytes at (entries.Decided name by v m) end is stands = (4, omega arith, first (4 ∷ []) (form_decided (name, by, v, m)) bytes at end stands)
 tagged bytes at (entries.Moment m) end is stands = (5, omega arith, first (5 ∷ []) (le64 m) bytes at end stands)
 tagged bytes at (entries.Delivered name) end is stands = (6, omega arith, first (6 ∷ []) (form_name name) bytes at end stands)
 
@@ -33,6 +34,7 @@ module _ (kind : ℕ) (bytes : List ℕ) (at start : ℕ) (got : IsByte kind × 
   has_organised one (entries.Organised d r) end is stands = ((d, r), is, fields_there 1 _ end (omega arith) stands)
   has_organised one (entries.Accepted m s) end is stands = absurd (omega (arith, one, is_kind 2 _ end (omega arith) stands))
   has_organised one (entries.Categorised n j plan) end is stands = absurd (omega (arith, one, is_kind 3 _ end (omega arith) stands))
+  has_organised one (entries.Decided name by v m) end is stands = absurd (omega (arith, one, is_kind 4 _ end (omega arith) stands))
   has_organised one (entries.Moment m) end is stands = absurd (omega (arith, one, is_kind 5 _ end (omega arith) stands))
   has_organised one (entries.Delivered name) end is stands = absurd (omega (arith, one, is_kind 6 _ end (omega arith) stands))
 
@@ -41,6 +43,7 @@ module _ (kind : ℕ) (bytes : List ℕ) (at start : ℕ) (got : IsByte kind × 
   has_accepted two (entries.Accepted m s) end is stands = ((m, s), is, fields_there 2 _ end (omega arith) stands)
   has_accepted two (entries.Organised d r) end is stands = absurd (omega (arith, two, is_kind 1 _ end (omega arith) stands))
   has_accepted two (entries.Categorised n j plan) end is stands = absurd (omega (arith, two, is_kind 3 _ end (omega arith) stands))
+  has_accepted two (entries.Decided name by v m) end is stands = absurd (omega (arith, two, is_kind 4 _ end (omega arith) stands))
   has_accepted two (entries.Moment m) end is stands = absurd (omega (arith, two, is_kind 5 _ end (omega arith) stands))
   has_accepted two (entries.Delivered name) end is stands = absurd (omega (arith, two, is_kind 6 _ end (omega arith) stands))
 
@@ -48,5 +51,14 @@ module _ (kind : ℕ) (bytes : List ℕ) (at start : ℕ) (got : IsByte kind × 
   has_categorised three (entries.Categorised n j plan) end is stands = ((n, j, plan), is, fields_there 3 _ end (omega arith) stands)
   has_categorised three (entries.Organised d r) end is stands = absurd (omega (arith, three, is_kind 1 _ end (omega arith) stands))
   has_categorised three (entries.Accepted m s) end is stands = absurd (omega (arith, three, is_kind 2 _ end (omega arith) stands))
+  has_categorised three (entries.Decided name by v m) end is stands = absurd (omega (arith, three, is_kind 4 _ end (omega arith) stands))
   has_categorised three (entries.Moment m) end is stands = absurd (omega (arith, three, is_kind 5 _ end (omega arith) stands))
   has_categorised three (entries.Delivered name) end is stands = absurd (omega (arith, three, is_kind 6 _ end (omega arith) stands))
+
+  pub has_decided : kind ≡ 4 → HasPart IsDecided form_decided IsEntry entry_text bytes at start
+  has_decided four (entries.Decided name by v m) end is stands = ((name, by, v, m), is, fields_there 4 _ end (omega arith) stands)
+  has_decided four (entries.Organised d r) end is stands = absurd (omega (arith, four, is_kind 1 _ end (omega arith) stands))
+  has_decided four (entries.Accepted m s) end is stands = absurd (omega (arith, four, is_kind 2 _ end (omega arith) stands))
+  has_decided four (entries.Categorised n j plan) end is stands = absurd (omega (arith, four, is_kind 3 _ end (omega arith) stands))
+  has_decided four (entries.Moment m) end is stands = absurd (omega (arith, four, is_kind 5 _ end (omega arith) stands))
+  has_decided four (entries.Delivered name) end is stands = absurd (omega (arith, four, is_kind 6 _ end (omega arith) stands))

@@ -1,7 +1,7 @@
 -- The releases of one submission follow one another.
 use Rattle.std.proofs.Common.{◌≡◌, ℕ, zero, suc, ◌≤◌, List, [], ◌∷◌, ◌++◌, take, Some, refl, ◌∙◌, ap, arith}
 use Rattle.mail_names.specs.declared.gate.Gate.{Gate}
-use Rattle.mail_plan.specs.Planning.{Input, Continues, input_at}
+use Rattle.mail_plan.specs.Planning.{Input, Opening, Continues, gates_opened, input_at}
 
 pub record Longer (first second : List Gate) : Type 0 where
   pub more : List Gate
@@ -18,11 +18,12 @@ take_longer (gate ∷ those) zero later h = record { more = take later (gate ∷
 take_longer (gate ∷ those) (suc earlier) zero h = absurd (omega arith)
 take_longer (gate ∷ those) (suc earlier) (suc later) h = cons gate (take earlier those) (take later those) (take_longer those earlier later (omega arith))
 
-pub continues : (base : Input) (approved : List Gate) (earlier later : ℕ) → earlier ≤ later →
-    Continues (input_at base approved earlier) (input_at base approved (suc later))
-continues base approved earlier later h =
-    let before : Longer (take earlier approved) (take later approved) = take_longer approved earlier later h in
-    let after : Longer (take later approved) (take (suc later) approved) = take_longer approved later (suc later) (omega arith) in
+pub continues : (base : Input) (openings : List Opening) (earlier later : ℕ) → earlier ≤ later →
+    Continues (input_at base openings earlier) (input_at base openings (suc later))
+continues base openings earlier later h =
+    let gates = gates_opened openings in
+    let before : Longer (take earlier gates) (take later gates) = take_longer gates earlier later h in
+    let after : Longer (take later gates) (take (suc later) gates) = take_longer gates later (suc later) (omega arith) in
     record {
       number = refl;
       epoch = refl;

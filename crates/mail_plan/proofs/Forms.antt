@@ -6,12 +6,16 @@ use Rattle.std.proofs.lemmas.List.{take_at, drop_at}
 use Rattle.std.proofs.lemmas.Bool.{cases_lt, lt-ltb, le-ltb}
 use Rattle.mail_names.specs.Key.{IsKey, key_of}
 use Rattle.mail_names.specs.declared.key.NameFault.TheVariants as faults
+use Rattle.mail_names.specs.declared.name.ApprovalName.{ApprovalName}
 use Rattle.mail_names.specs.declared.name.ItemName.{ItemName}
+use Rattle.mail_names.specs.Names.{IsApprovalName}
+use Rattle.moderation.specs.declared.approval.Verdict.{Verdict}
+use Rattle.moderation.specs.declared.approval.Verdict.TheVariants as verdicts
 use Rattle.mail_names.specs.declared.name.Mark.{Mark}
 use Rattle.mail_names.specs.declared.name.Mark.TheVariants as marks
 use Rattle.journal_report.specs.declared.why.Why.{Why}
 use Rattle.journal_report.specs.declared.why.Why.TheVariants as whys
-use Rattle.mail_plan.specs.EntryText.{le32, le64, form_bytes, form_key_option, form_all, form_mark, form_name, form_kind, form_why, form_gate, form_item, form_tell, form_hold, form_end, form_release, form_origin, form_submission, entry_text}
+use Rattle.mail_plan.specs.EntryText.{le32, le64, form_bytes, form_key_option, form_all, form_mark, form_name, form_approval, form_kind, form_why, form_gate, form_item, form_tell, form_hold, form_end, form_release, form_origin, form_submission, form_verdict, entry_text}
 use Rattle.mail_plan.specs.Entries.{IsU32, IsU64, IsBytes, IsKeyOption, IsListOf, IsName, IsWhy, IsGate, IsItem, IsHold, IsEnd, IsRelease, IsOrigin, IsSubmission, IsEntry}
 use Rattle.mail_plan.specs.Reading.{OneForm}
 use Rattle.mail_plan.specs.Submission.{Submitted}
@@ -133,6 +137,42 @@ one_name a b more rest here there is =
     let r = parts IsU32 le32 one_le32 a.place b.place _ _ more rest here.place there.place q.1 in
     let s = one_mark a.mark b.mark more rest tt tt r.1 in
     (same_name a b p.0 q.0 r.0 s.0, s.1)
+
+same_approval : (a b : ApprovalName) → a.submission ≡ b.submission → a.release ≡ b.release → a.gate ≡ b.gate → a ≡ b
+same_approval a b submission release gate =
+    ap (λ (x : ℕ). record { submission = x; release = a.release; gate = a.gate }) submission
+    ∙ ap (λ (x : ℕ). record { submission = b.submission; release = x; gate = a.gate }) release
+    ∙ ap (λ (x : ℕ). record { submission = b.submission; release = b.release; gate = x }) gate
+
+pub one_approval : OneForm IsApprovalName form_approval
+one_approval a b more rest here there is =
+    let p = parts IsU64 le64 one_le64 a.submission b.submission _ _ more rest here.submission there.submission is in
+    let q = parts IsU32 le32 one_le32 a.release b.release _ _ more rest here.release there.release p.1 in
+    let r = one_le32 a.gate b.gate more rest here.gate there.gate q.1 in
+    (same_approval a b p.0 q.0 r.0, r.1)
+
+verdict_of : List ℕ → Verdict
+verdict_of [] = verdicts.Approve
+verdict_of (zero ∷ bytes) = verdicts.Approve
+verdict_of (suc n ∷ bytes) = verdicts.Reject
+
+verdict_back : (v : Verdict) (more : List ℕ) → verdict_of (form_verdict v ++ more) ≡ v
+unfolding verdict_of
+verdict_back verdicts.Approve more = refl
+verdict_back verdicts.Reject more = refl
+
+verdict_behind : (v : Verdict) (more : List ℕ) → drop 1 (form_verdict v ++ more) ≡ more
+verdict_behind verdicts.Approve more = refl
+verdict_behind verdicts.Reject more = refl
+
+abbrev pub IsVerdict : Verdict → Type 0
+IsVerdict v = ⊤
+
+pub one_verdict : OneForm IsVerdict form_verdict
+one_verdict a b more rest here there is = (
+  sym (verdict_back a more) ∙ ap verdict_of is ∙ verdict_back b rest,
+  sym (verdict_behind a more) ∙ ap (λ (l : List ℕ). drop 1 l) is ∙ verdict_behind b rest,
+)
 
 module _ {A : Type 0} (Is : A → Type 0) (form : A → List ℕ) (one : OneForm Is form) where
   one_row : (xs ys : List A) (more rest : List ℕ) → length xs ≡ length ys → AllByRecursion Is xs → AllByRecursion Is ys → flat_map form xs ++ more ≡ flat_map form ys ++ rest → (xs ≡ ys) × (more ≡ rest)
@@ -336,6 +376,15 @@ one_entry (entries.Categorised m i plan) (entries.Categorised n j other) more re
     let q = parts IsU32 le32 one_le32 i j _ _ more rest here.1 there.1 p.1 in
     let r = one_release plan other more rest here.2 there.2 q.1 in
     (ap (λ (x : ℕ). entries.Categorised x i plan) p.0 ∙ ap (λ (x : ℕ). entries.Categorised n x plan) q.0 ∙ ap (λ (x : Release). entries.Categorised n j x) r.0, r.1)
+one_entry (entries.Decided name key verdict m) (entries.Decided other by reply n) more rest here there is =
+    let p = parts IsApprovalName form_approval one_approval name other _ _ more rest here.0 there.0 (tail _ _ _ _ is) in
+    let q = parts IsKey form_bytes one_key key by _ _ more rest here.1 there.1 p.1 in
+    let r = parts IsVerdict form_verdict one_verdict verdict reply _ _ more rest tt tt q.1 in
+    let s = one_le64 m n more rest here.2 there.2 r.1 in (
+      ap (λ (x : ApprovalName). entries.Decided x key verdict m) p.0 ∙ ap (λ (x : List ℕ). entries.Decided other x verdict m) q.0
+          ∙ ap (λ (x : Verdict). entries.Decided other by x m) r.0 ∙ ap (λ (x : ℕ). entries.Decided other by reply x) s.0,
+      s.1,
+    )
 one_entry (entries.Moment m) (entries.Moment n) more rest here there is =
     let p = one_le64 m n more rest here there (tail _ _ _ _ is) in
     (ap (λ (x : ℕ). entries.Moment x) p.0, p.1)
@@ -362,3 +411,13 @@ one_entry (entries.Delivered a) (entries.Organised e t) more rest here there is 
 one_entry (entries.Delivered a) (entries.Accepted n t) more rest here there is = absurd (cc is)
 one_entry (entries.Delivered a) (entries.Categorised n j other) more rest here there is = absurd (cc is)
 one_entry (entries.Delivered a) (entries.Moment n) more rest here there is = absurd (cc is)
+one_entry (entries.Organised d r) (entries.Decided name by verdict o) more rest here there is = absurd (cc is)
+one_entry (entries.Accepted m s) (entries.Decided name by verdict o) more rest here there is = absurd (cc is)
+one_entry (entries.Categorised m i plan) (entries.Decided name by verdict o) more rest here there is = absurd (cc is)
+one_entry (entries.Moment m) (entries.Decided name by verdict o) more rest here there is = absurd (cc is)
+one_entry (entries.Delivered a) (entries.Decided name by verdict o) more rest here there is = absurd (cc is)
+one_entry (entries.Decided name by verdict o) (entries.Organised e t) more rest here there is = absurd (cc is)
+one_entry (entries.Decided name by verdict o) (entries.Accepted n t) more rest here there is = absurd (cc is)
+one_entry (entries.Decided name by verdict o) (entries.Categorised n j other) more rest here there is = absurd (cc is)
+one_entry (entries.Decided name by verdict o) (entries.Moment n) more rest here there is = absurd (cc is)
+one_entry (entries.Decided name by verdict o) (entries.Delivered b) more rest here there is = absurd (cc is)

@@ -7,3 +7,4 @@ mod ByKind
 pub mod Printable
 mod Chains
 mod Once
+mod Opened

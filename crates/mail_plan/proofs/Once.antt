@@ -2,9 +2,8 @@
 use Rattle.std.proofs.Common.{◌≡◌, ℕ, zero, suc, ◌≤◌, Bool, true, false, ◌||◌, ◌&&◌, not, List, [], ◌∷◌, ◌++◌, bytes_eq, refl, sym, ◌∙◌, ap, arith}
 use Rattle.std.proofs.lemmas.List.Folds.{list_any-append}
 use Rattle.std.proofs.lemmas.Slice.Eq.{bytes_eq-Decides}
-use Rattle.mail_names.specs.declared.gate.Gate.{Gate}
 use Rattle.mail_plan.specs.declared.release.Release.{Release}
-use Rattle.mail_plan.specs.Planning.{Input, Continues, is_among, are_distinct, targets, input_at, all_targets}
+use Rattle.mail_plan.specs.Planning.{Input, Opening, Continues, is_among, are_distinct, targets, input_at, all_targets}
 use Rattle.mail_plan.proofs.Chains.{continues}
 
 and_true : (a b : Bool) → a ≡ true → b ≡ true → (a && b) ≡ true
@@ -52,7 +51,7 @@ SentOnce release_of = (earlier later : Input) → Continues earlier later → (k
     is_among key (targets (release_of earlier).items) ≡ true → is_among key (targets (release_of later).items) ≡ false
 
 -- what the releases before this one sent, it doesn't
-apart-so-far : (release_of : Input → Release) → SentOnce release_of → (base : Input) (approved : List Gate) (count later : ℕ) (key : List ℕ) → count ≤ later →
+apart-so-far : (release_of : Input → Release) → SentOnce release_of → (base : Input) (approved : List Opening) (count later : ℕ) (key : List ℕ) → count ≤ later →
     is_among key (all_targets release_of base approved count) ≡ true → is_among key (targets (release_of (input_at base approved later)).items) ≡ false
 apart-so-far release_of once base approved zero later key below h = absurd (cc)
 apart-so-far release_of once base approved (suc count) zero key below h = absurd (omega arith)
@@ -64,7 +63,7 @@ apart-so-far release_of once base approved (suc count) (suc later) key below h =
     (sym (list_any-append (bytes_eq key) (all_targets release_of base approved count) (targets (release_of (input_at base approved count)).items)) ∙ h)
 
 pub all-once : (release_of : Input → Release) → ((input : Input) → are_distinct (targets (release_of input).items) ≡ true) → SentOnce release_of →
-    (base : Input) (approved : List Gate) (count : ℕ) → are_distinct (all_targets release_of base approved count) ≡ true
+    (base : Input) (approved : List Opening) (count : ℕ) → are_distinct (all_targets release_of base approved count) ≡ true
 all-once release_of each once base approved zero = refl
 all-once release_of each once base approved (suc count) =
     joined-distinct (all_targets release_of base approved count) (targets (release_of (input_at base approved count)).items)

@@ -4,7 +4,10 @@ use Rattle.std.specs.List.{AllByRecursion}
 use Rattle.mail_names.specs.Key.{IsKey}
 use Rattle.mail_names.specs.declared.gate.Gate.{Gate}
 use Rattle.mail_names.specs.declared.gate.Gate.TheVariants as gates
+use Rattle.mail_names.specs.declared.name.ApprovalName.{ApprovalName}
 use Rattle.mail_names.specs.declared.name.ItemName.{ItemName}
+use Rattle.mail_names.specs.Names.{IsApprovalName}
+use Rattle.moderation.specs.declared.approval.Verdict.{Verdict}
 use Rattle.journal_report.specs.declared.why.Why.{Why}
 use Rattle.journal_report.specs.declared.why.Why.TheVariants as whys
 use Rattle.mail_plan.specs.Submission.{Submitted, submission_of}
@@ -96,9 +99,13 @@ IsAccepted accepted = IsU64 accepted.0 × IsSubmission accepted.1
 abbrev pub IsCategorised : ℕ × ℕ × Release → Type 0
 IsCategorised made = IsU64 made.0 × IsU32 made.1 × IsRelease made.2
 
+abbrev pub IsDecided : ApprovalName × List ℕ × Verdict × ℕ → Type 0
+IsDecided decided = IsApprovalName decided.0 × IsKey decided.1 × IsU64 decided.3
+
 abbrev pub IsEntry : Entry → Type 0
 IsEntry (entries.Organised directory rules) = IsOrganised (directory, rules)
 IsEntry (entries.Accepted moment submission) = IsAccepted (moment, submission)
 IsEntry (entries.Categorised number release plan) = IsCategorised (number, release, plan)
+IsEntry (entries.Decided approval by verdict moment) = IsDecided (approval, by, verdict, moment)
 IsEntry (entries.Moment moment) = IsU64 moment
 IsEntry (entries.Delivered name) = IsName name

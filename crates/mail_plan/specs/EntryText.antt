@@ -7,6 +7,8 @@ use Rattle.mail_names.specs.declared.name.ApprovalName.{ApprovalName}
 use Rattle.mail_names.specs.declared.name.ItemName.{ItemName}
 use Rattle.mail_names.specs.declared.name.Mark.{Mark}
 use Rattle.mail_names.specs.declared.name.Mark.TheVariants as marks
+use Rattle.moderation.specs.declared.approval.Verdict.{Verdict}
+use Rattle.moderation.specs.declared.approval.Verdict.TheVariants as verdicts
 use Rattle.journal_report.specs.declared.why.Why.{Why}
 use Rattle.journal_report.specs.declared.why.Why.TheVariants as whys
 use Rattle.org_directory.specs.declared.object.Tell.{Tell}
@@ -127,10 +129,19 @@ form_accepted accepted = le64 accepted.0 ++ form_submission accepted.1
 abbrev pub form_categorised : ℕ × ℕ × Release → List ℕ
 form_categorised made = le64 made.0 ++ (le32 made.1 ++ form_release made.2)
 
+abbrev pub form_verdict : Verdict → List ℕ
+form_verdict verdicts.Approve = 0 ∷ []
+form_verdict verdicts.Reject = 1 ∷ []
+
+-- a decision: its approval's name, the key of who made it, its verdict, u64 moment
+abbrev pub form_decided : ApprovalName × List ℕ × Verdict × ℕ → List ℕ
+form_decided decided = form_approval decided.0 ++ (form_bytes decided.1 ++ (form_verdict decided.2 ++ le64 decided.3))
+
 -- an entry: its kind, and its fields in order
 abbrev pub entry_text : Entry → List ℕ
 entry_text (entries.Organised directory rules) = 1 ∷ form_organised (directory, rules)
 entry_text (entries.Accepted moment submission) = 2 ∷ form_accepted (moment, submission)
 entry_text (entries.Categorised number release plan) = 3 ∷ form_categorised (number, release, plan)
+entry_text (entries.Decided approval by verdict moment) = 4 ∷ form_decided (approval, by, verdict, moment)
 entry_text (entries.Moment moment) = 5 ∷ le64 moment
 entry_text (entries.Delivered name) = 6 ∷ form_name name

@@ -1,6 +1,6 @@
 -- What a planner is asked for, and the form of what it gives.
 use Rattle.std.specs.Prelude.{◌≡◌, ℕ, zero, suc, ◌+◌, ◌==◌, ◌&&◌, not, nat_lt, nat_le, Bool, true, false, if◌then◌else◌, List, [], ◌∷◌, ◌++◌, length, map, take, bytes_eq, codes, Option, Some, None, Result, Ok, Err}
-use Rattle.std.specs.List.{list_any}
+use Rattle.std.specs.List.{list_any, slice_get}
 use Rattle.mail_names.specs.declared.gate.Gate.{Gate}
 use Rattle.mail_names.specs.declared.gate.Gate.TheVariants as gates
 use Rattle.mail_names.specs.declared.name.ItemName.{ItemName}
@@ -120,17 +120,52 @@ pub record Continues (earlier later : Input) : Type 0 where
   pub rest : List Gate
   pub goes_on : later.opened ≡ (earlier.opened ++ more) ++ rest
 
--- the gates that were opened before this release, where these are approved in order
-abbrev pub before_at : List Gate → ℕ → Option (List Gate)
-before_at approved zero = None
-before_at approved (suc release) = Some (take release approved)
+-- a gate that an approval opened, and when
+pub record Opening : Type 0 where
+  pub gate : Gate
+  pub moment : ℕ
+
+abbrev pub gates_opened : List Opening → List Gate
+gates_opened openings = map (λ (opening : Opening). opening.gate) openings
+
+-- the gates that were opened before this release, where these were opened in order
+abbrev pub before_at : List Opening → ℕ → Option (List Gate)
+before_at openings zero = None
+before_at openings (suc release) = Some (take release (gates_opened openings))
+
+abbrev pub moment_or : ℕ → Option Opening → ℕ
+moment_or moment None = moment
+moment_or moment (Some opening) = opening.moment
+
+-- the moment of this release, where that of the first is given: that of the opening that made it
+abbrev pub made_at : ℕ → List Opening → ℕ → ℕ
+made_at first openings zero = first
+made_at first openings (suc release) = moment_or first (slice_get openings release)
 
 -- the input of this release of a submission
-abbrev pub input_at : Input → List Gate → ℕ → Input
-input_at base approved release = record base { release = release; before = before_at approved release; opened = take release approved }
+abbrev pub input_at : Input → List Opening → ℕ → Input
+input_at base openings release = record base {
+  release = release;
+  made = made_at base.made openings release;
+  before = before_at openings release;
+  opened = take release (gates_opened openings);
+}
+
+-- the input of the first release of a submission of this number, which was accepted at this moment in this epoch
+abbrev pub first_input : ℕ → ℕ → ℕ → Submitted → Input
+first_input number epoch moment submission = record {
+  number = number;
+  release = 0;
+  epoch = epoch;
+  accepted_at = moment;
+  made = moment;
+  before = None;
+  opened = [];
+  submission = submission;
+}
 
 -- the targets of the first releases, so many
-abbrev pub all_targets : (Input → Release) → Input → List Gate → ℕ → List (List ℕ)
+abbrev pub all_targets : (Input → Release) → Input → List Opening → ℕ → List (List ℕ)
 all_targets release_of base approved zero = []
 all_targets release_of base approved (suc release) =
     all_targets release_of base approved release ++ targets (release_of (input_at base approved release)).items

@@ -1,8 +1,9 @@
 // The message that is sent for a submission.
-ghost use Rattle.std.specs.Prelude.{◌≡◌, true, IfOk};
+ghost use Rattle.std.specs.Prelude.{◌≡◌, true, codes, IfOk, OnOk};
 ghost use Rattle.mail_message.specs.Lines.{is_printable};
 ghost use Rattle.mail_message.specs.ReadOf.{read_of};
-ghost use Rattle.mail_plan.specs.Base.{id_text, text_with_id, base_text};
+ghost use Rattle.mail_plan.specs.Base.{id_text, text_with_id, base_text, with_id, base_message};
+ghost use Rattle.mail_plan.specs.Submission.{has_id};
 
 use crate::Submission;
 use mail_message::Message;
@@ -33,6 +34,16 @@ fn text_with_id(alloc: Global, number: u64, bytes: &[u8]) -> Result<Bytes, NoMem
     }
 }
 
+fn with_id(alloc: Global, has: bool, number: u64, message: &mut Message) -> Result<(), NoMemory>
+    ensures { OnOk result (message.new ≡ with_id has number message.old) }
+{
+    if has {
+        return Ok(());
+    }
+    let id = id_text(alloc, number)?;
+    message.set_field(alloc, b"Message-Id", id.as_slice())
+}
+
 impl Submission {
     /// The message that rules see and that is sent: the bytes as they are, or, where they have no Message-Id with
     /// a value, with `Message-Id: <N@hub.invalid>`, N being the submission's number.
@@ -43,5 +54,20 @@ impl Submission {
             return Bytes::of(alloc, self.bytes());
         }
         text_with_id(alloc, number, self.bytes())
+    }
+
+    /// The message that rules see: as `base_text`, but as a message.
+    pub fn base_message(&self, alloc: Global, number: u64) -> Result<Message, NoMemory>
+        ensures { IfOk result (λ message. message ≡ base_message number self.now.bytes) }
+    {
+        match Message::read(alloc, self.bytes()) {
+            Ok(message) => {
+                let mut message = message;
+                with_id(alloc, self.has_message_id(), number, &mut message)?;
+                Ok(message)
+            }
+            // The bytes of a submission are readable, so this is want of memory.
+            Err(_) => Err(NoMemory),
+        }
     }
 }

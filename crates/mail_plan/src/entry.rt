@@ -1,6 +1,7 @@
 // The entries of a history.
 use crate::{Release, Submission};
-use mail_names::{Bytes, ItemName};
+use mail_names::{ApprovalName, Bytes, ItemName, Key};
+use moderation::Verdict;
 
 /// What happened. Moments are seconds since 1970-01-01T00:00:00Z.
 #[derive(Drop)]
@@ -20,6 +21,13 @@ pub enum Entry {
         number: u64,
         release: u32,
         plan: Release,
+    },
+    /// A moderator decided on an approval.
+    Decided {
+        approval: ApprovalName,
+        by: Key,
+        verdict: Verdict,
+        moment: u64,
     },
     /// A turn began.
     Moment {

@@ -3,7 +3,7 @@ ghost use Rattle.std.specs.Prelude.{◌≡◌, ⊤, ℕ, ◌≤◌, List, length
 ghost use Rattle.std.specs.List.{AllByRecursion};
 ghost use Rattle.mail_names.specs.Key.{IsKey};
 ghost use Rattle.mail_names.specs.Names.{IsApprovalName};
-ghost use Rattle.mail_plan.specs.EntryText.{form_bytes, form_key_option, form_all, form_mark, form_name, form_approval, form_gate, form_kind, form_why, form_item, form_release, form_origin, form_submission};
+ghost use Rattle.mail_plan.specs.EntryText.{form_bytes, form_key_option, form_all, form_mark, form_name, form_approval, form_gate, form_kind, form_why, form_item, form_release, form_origin, form_submission, form_verdict};
 ghost use Rattle.mail_plan.specs.Entries.{IsBytes, IsKeyOption, IsListOf, IsName, IsGate, IsWhy, IsItem, IsRelease, IsOrigin, IsSubmission};
 ghost use Rattle.mail_plan.specs.Reading.{Reads, OneForm};
 ghost use Rattle.mail_plan.specs.Submission.{Submitted, submission_of};
@@ -12,6 +12,7 @@ use crate::places::{Miss, byte_at, slice_at, u32_at, u64_at};
 use crate::{Item, ItemKind, Origin, Release, Submission, SubmissionFault};
 use journal_report::Why;
 use mail_names::{ApprovalName, Bytes, Gate, ItemName, Items, Key, Mark, NameFault};
+use moderation::Verdict;
 use std::alloc::Global;
 
 /// A value with a form, of which lists are made.
@@ -128,6 +129,17 @@ pub fn approval_name_at(bytes: &[u8], at: usize) -> Result<(ApprovalName, usize)
         gate,
     };
     Ok((name, end))
+}
+
+pub fn verdict_at(bytes: &[u8], at: usize) -> Result<(Verdict, usize), Miss>
+    ensures { Reads (λ v. ⊤) form_verdict bytes.now at result }
+{
+    let (number, end) = byte_at(bytes, at)?;
+    match number {
+        0 => Ok((Verdict::Approve, end)),
+        1 => Ok((Verdict::Reject, end)),
+        _ => Err(Miss::NoForm),
+    }
 }
 
 pub fn gate_at(alloc: Global, bytes: &[u8], at: usize) -> Result<(Gate, usize), Miss>

@@ -1,12 +1,118 @@
 // What a release is made from.
-ghost use Rattle.std.specs.Prelude.{◌≡◌, ◌≤◌, [], None, option_copied};
+ghost use Rattle.std.specs.Prelude.{◌≡◌, ◌≤◌, length, IfOk};
 ghost use Rattle.std.specs.Arc.{arc_value};
+ghost use Rattle.mail_plan.specs.Planning.{gates_opened, before_at, made_at, input_at, first_input};
 
 use crate::Submission;
-use mail_names::{Gate, Items, LAST_MOMENT};
+use mail_names::{Gate, Items, LAST_MOMENT, NoMemory};
 use std::alloc::Global;
 use std::marker::Model;
 use std::sync::Arc;
+
+/// A gate that an approval opened, and the moment at which it did, in seconds since 1970-01-01T00:00:00Z.
+///
+/// It did by the last moment.
+#[derive(Drop)]
+pub struct Opening {
+    gate: Gate,
+    moment: u64,
+}
+
+impl Model for Opening {
+    ghost use Rattle.std.specs.Prelude.{◌≤◌};
+    ghost use Rattle.mail_plan.specs.Planning.{Opening};
+
+    ghost Value = { Opening };
+
+    ghost view = { λ o. record { gate = o.gate; moment = o.moment } };
+
+    ghost invariant = { λ o. o.moment ≤ 253402300799 };
+}
+
+impl Opening {
+    pub fn new(gate: Gate, moment: u64) -> Opening
+        requires { moment ≤ LAST_MOMENT }
+        ensures { result ≡ record { gate = gate; moment = moment } }
+    {
+        Opening { gate, moment }
+    }
+
+    /// A copy of this gate, opened at this moment.
+    pub fn of(alloc: Global, gate: &Gate, moment: u64) -> Result<Opening, NoMemory>
+        requires { moment ≤ LAST_MOMENT }
+        ensures { IfOk result (λ opening. opening ≡ record { gate = gate.now; moment = moment }) }
+    {
+        let gate = copy_gate(alloc, gate)?;
+        Ok(Opening { gate, moment })
+    }
+
+    pub fn gate(&self) -> &Gate
+        ensures { result.now ≡ self.now.gate }
+    {
+        &self.gate
+    }
+
+    /// When the gate was opened.
+    pub fn moment(&self) -> u64
+        ensures value { result ≡ self.now.moment }
+        ensures moment { result ≤ LAST_MOMENT }
+    {
+        self.moment
+    }
+}
+
+fn copy_gate(alloc: Global, gate: &Gate) -> Result<Gate, NoMemory>
+    ensures { IfOk result (λ copy. copy ≡ gate.now) }
+{
+    match gate {
+        Gate::Object { key } => {
+            let key = key.copy(alloc)?;
+            Ok(Gate::Object { key })
+        }
+        Gate::Rule { place } => Ok(Gate::Rule { place: *place }),
+    }
+}
+
+fn gates_opened(alloc: Global, openings: &[Opening]) -> Result<Items<Gate>, NoMemory>
+    ensures { IfOk result (λ gates. gates ≡ gates_opened openings.now) }
+{
+    let mut gates = Items::new(alloc);
+    for opening in openings {
+        gates.push(copy_gate(alloc, opening.gate())?)?;
+    }
+    Ok(gates)
+}
+
+// The gates that were opened before a release; None for the first one.
+fn before_at(
+    alloc: Global,
+    openings: &[Opening],
+    release: usize,
+) -> Result<Option<Items<Gate>>, NoMemory>
+    requires { release ≤ length openings.now }
+    ensures { IfOk result (λ gates. gates ≡ before_at openings.now release) }
+{
+    if release == 0 {
+        return Ok(None);
+    }
+    let gates = gates_opened(alloc, &openings[..release - 1])?;
+    Ok(Some(gates))
+}
+
+// The moment of a release, where that of the first is given.
+fn made_at(first: u64, openings: &[Opening], release: usize) -> u64
+    requires { first ≤ LAST_MOMENT }
+    ensures value { result ≡ made_at first openings.now release }
+    ensures moment { result ≤ LAST_MOMENT }
+{
+    if release == 0 {
+        return first;
+    }
+    match openings.get(release - 1) {
+        Some(opening) => opening.moment(),
+        None => first,
+    }
+}
 
 /// What a release is made from: the submission with its number, the epoch of the organisation that stood when it was
 /// accepted, the moments of acceptance and of this release, in seconds since 1970-01-01T00:00:00Z, and the gates that
@@ -45,7 +151,7 @@ impl ReleaseInput {
         submission: Arc<Submission>,
     ) -> ReleaseInput
         requires { accepted_at ≤ LAST_MOMENT }
-        ensures { result ≡ record { number = number; release = 0; epoch = epoch; accepted_at = accepted_at; made = accepted_at; before = None; opened = []; submission = arc_value submission } }
+        ensures { result ≡ first_input number epoch accepted_at (arc_value submission) }
     {
         ReleaseInput {
             number,
@@ -57,6 +163,37 @@ impl ReleaseInput {
             opened: Items::new(alloc),
             submission,
         }
+    }
+
+    /// The input of a release of a submission, behind these openings: the first release is that of acceptance, and each
+    /// opening makes the next.
+    pub fn at(
+        alloc: Global,
+        number: u64,
+        epoch: u32,
+        accepted_at: u64,
+        submission: Arc<Submission>,
+        opened: &[Opening],
+        release: u32,
+    ) -> Result<ReleaseInput, NoMemory>
+        requires moment { accepted_at ≤ LAST_MOMENT }
+        requires within { release ≤ length opened.now }
+        ensures { IfOk result (λ input. input ≡ input_at (first_input number epoch accepted_at (arc_value submission)) opened.now release) }
+    {
+        let place = release as usize;
+        let made = made_at(accepted_at, opened, place);
+        let before = before_at(alloc, opened, place)?;
+        let opened = gates_opened(alloc, &opened[..place])?;
+        Ok(ReleaseInput {
+            number,
+            release,
+            epoch,
+            accepted_at,
+            made,
+            before,
+            opened,
+            submission,
+        })
     }
 
     pub fn number(&self) -> u64

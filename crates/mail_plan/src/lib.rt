@@ -18,7 +18,7 @@ mod submission;
 mod text;
 
 pub use entry::Entry;
-pub use input::ReleaseInput;
+pub use input::{Opening, ReleaseInput};
 pub use intake::{Accepted, Intake, IntakeFault, IntakeStep};
 pub use outcome::{Outcome, Task, plan};
 pub use planner::{FIRST_DIRECTORY, OrgFault, Planner};

@@ -2,18 +2,19 @@
 ghost use Rattle.std.specs.Prelude.{◌≡◌};
 ghost use Rattle.mail_names.specs.Key.{IsKey};
 ghost use Rattle.mail_names.specs.Names.{IsApprovalName};
-ghost use Rattle.mail_plan.specs.EntryText.{form_bytes, form_key_option, form_all, form_name, form_approval, form_gate, form_why, form_release, form_origin, form_organised, form_accepted, form_categorised, entry_text};
-ghost use Rattle.mail_plan.specs.Entries.{IsBytes, IsKeyOption, IsListOf, IsName, IsGate, IsWhy, IsRelease, IsOrigin, IsOrganised, IsAccepted, IsCategorised, IsEntry};
+ghost use Rattle.mail_plan.specs.EntryText.{form_bytes, form_key_option, form_all, form_name, form_approval, form_gate, form_why, form_release, form_origin, form_organised, form_accepted, form_categorised, form_decided, entry_text};
+ghost use Rattle.mail_plan.specs.Entries.{IsBytes, IsKeyOption, IsListOf, IsName, IsGate, IsWhy, IsRelease, IsOrigin, IsOrganised, IsAccepted, IsCategorised, IsDecided, IsEntry};
 ghost use Rattle.mail_plan.specs.Reading.{Reads, Finds, ReadsAll, found_of};
 
 use crate::fields::{
     approval_name_at, bytes_at, gate_at, key_at, key_option_at, list_at, name_at, origin_at,
-    release_at, submission_at, why_at,
+    release_at, submission_at, verdict_at, why_at,
 };
 use crate::places::{Miss, byte_at, u32_at, u64_at};
 use crate::{Entry, Origin, Release, Submission};
 use journal_report::Why;
 use mail_names::{ApprovalName, Bytes, Gate, ItemName, Items, Key, NoMemory};
+use moderation::Verdict;
 use std::alloc::Global;
 
 // None where no such form stands.
@@ -147,6 +148,21 @@ fn categorised_at(
     Ok(((number, release, plan), end))
 }
 
+// An approval's name, the key of who decided, the verdict and the moment.
+fn decided_at(
+    alloc: Global,
+    bytes: &[u8],
+    at: usize,
+) -> Result<((ApprovalName, Key, Verdict, u64), usize), Miss>
+    ensures { Reads IsDecided form_decided bytes.now at result }
+{
+    let (approval, at_key) = approval_name_at(bytes, at)?;
+    let (by, at_verdict) = key_at(alloc, bytes, at_key)?;
+    let (verdict, at_moment) = verdict_at(bytes, at_verdict)?;
+    let (moment, end) = u64_at(bytes, at_moment)?;
+    Ok(((approval, by, verdict, moment), end))
+}
+
 fn entry_at(alloc: Global, bytes: &[u8], at: usize) -> Result<(Entry, usize), Miss>
     ensures { Reads IsEntry entry_text bytes.now at result }
 {
@@ -166,6 +182,16 @@ fn entry_at(alloc: Global, bytes: &[u8], at: usize) -> Result<(Entry, usize), Mi
                 number,
                 release,
                 plan,
+            };
+            Ok((entry, end))
+        }
+        4 => {
+            let ((approval, by, verdict, moment), end) = decided_at(alloc, bytes, start)?;
+            let entry = Entry::Decided {
+                approval,
+                by,
+                verdict,
+                moment,
             };
             Ok((entry, end))
         }

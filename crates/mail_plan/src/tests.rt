@@ -1,12 +1,16 @@
+ghost use Rattle.std.specs.Prelude.{◌≤◌};
+
 use crate::{
-    Entry, FIRST_DIRECTORY, Item, ItemKind, Origin, Release, Submission, get_approval_name,
-    get_bytes, get_gate, get_item_name, get_key, get_key_option, get_keys, get_origin, get_release,
-    get_why, put_approval_name, put_gate, put_release, put_why,
+    Entry, FIRST_DIRECTORY, Item, ItemKind, Opening, Origin, Release, ReleaseInput, Submission,
+    get_approval_name, get_bytes, get_gate, get_item_name, get_key, get_key_option, get_keys,
+    get_origin, get_release, get_why, put_approval_name, put_gate, put_release, put_why,
 };
 use journal_report::Why;
 use mail_names::{ApprovalName, Bytes, Gate, ItemName, Items, Key, Mark};
+use moderation::Verdict;
 use std::alloc::Global;
 use std::process::Abort;
+use std::sync::Arc;
 use std::test::Fail;
 
 const NAME: ItemName = ItemName {
@@ -14,6 +18,12 @@ const NAME: ItemName = ItemName {
     release: 2,
     place: 3,
     mark: Mark::Delay,
+};
+
+const APPROVAL: ApprovalName = ApprovalName {
+    submission: 1,
+    release: 2,
+    gate: 3,
 };
 
 const NAME_TEXT: &[u8] = b"\x01\0\0\0\0\0\0\0\x02\0\0\0\x03\0\0\0\x02";
@@ -30,12 +40,16 @@ fn keys(alloc: Global) -> Result<Items<Key>, Fail> {
     Ok(keys)
 }
 
-fn accepted(alloc: Global) -> Result<Entry, Fail> {
+fn submission(alloc: Global) -> Result<Submission, Fail> {
     let bytes = Bytes::of(alloc, b"A: b\r\n\r\n")?;
     let submission = Submission::new(alloc, Origin::Smtp, None, keys(alloc)?, bytes);
+    Ok(submission.ok().ok_or("no submission")?)
+}
+
+fn accepted(alloc: Global) -> Result<Entry, Fail> {
     Ok(Entry::Accepted {
         moment: 5,
-        submission: submission.ok().ok_or("no submission")?,
+        submission: submission(alloc)?,
     })
 }
 
@@ -103,11 +117,40 @@ fn moments_and_deliveries_are_written_and_read(rt: HostRuntime) -> Result<(), Fa
 }
 
 #[test]
+fn a_decision_is_written_and_read(rt: HostRuntime) -> Result<(), Fail> {
+    let alloc = rt.alloc();
+    for (verdict, bytes) in [
+        (
+            Verdict::Approve,
+            b"\x04\x01\0\0\0\0\0\0\0\x02\0\0\0\x03\0\0\0\x03\0\0\0\0\0\0\0a@b\0\x07\0\0\0\0\0\0\0".as_slice(),
+        ),
+        (
+            Verdict::Reject,
+            b"\x04\x01\0\0\0\0\0\0\0\x02\0\0\0\x03\0\0\0\x03\0\0\0\0\0\0\0a@b\x01\x07\0\0\0\0\0\0\0".as_slice(),
+        ),
+    ] {
+        let entry = Entry::Decided {
+            approval: APPROVAL,
+            by: key(alloc)?,
+            verdict,
+            moment: 7,
+        };
+        check_entry(&rt, alloc, &entry)?;
+        assert_eq!(rt; entry.text(alloc)?.as_slice(), bytes);
+        let again = Entry::read(alloc, bytes)?.ok_or("an entry")?;
+        assert!(rt;
+            matches!(again, Entry::Decided { verdict: read, moment: 7, .. } if read == verdict)
+        );
+    }
+    Ok(())
+}
+
+#[test]
 fn other_bytes_are_no_entry(rt: HostRuntime) -> Result<(), Fail> {
     let alloc = rt.alloc();
     for (payload, what) in [
         (b"".as_slice(), "nothing"),
-        (b"\x04\0\0\0\0\0\0\0\0".as_slice(), "a kind that isn't used"),
+        (b"\x07\0\0\0\0\0\0\0\0".as_slice(), "a kind that isn't used"),
         (b"\x05\0\0\0\0\0\0\0\0\0".as_slice(), "a byte left over"),
         (b"\x05\0\0\0\0\0\0\0".as_slice(), "a byte too few"),
         (
@@ -214,17 +257,12 @@ fn reasons_are_written_and_read(rt: HostRuntime) -> Result<(), Fail> {
 #[test]
 fn approval_names_are_written_and_read(rt: HostRuntime) -> Result<(), Fail> {
     let alloc = rt.alloc();
-    let name = ApprovalName {
-        submission: 1,
-        release: 2,
-        gate: 3,
-    };
     let bytes = b"\x01\0\0\0\0\0\0\0\x02\0\0\0\x03\0\0\0".as_slice();
     let mut text = Bytes::new(alloc);
-    put_approval_name(&mut text, &name)?;
+    put_approval_name(&mut text, &APPROVAL)?;
     assert_eq!(rt; text.as_slice(), bytes);
     let (found, end) = get_approval_name(bytes, 0)?.ok_or("a name")?;
-    assert_eq!(rt; found, name);
+    assert_eq!(rt; found, APPROVAL);
     assert_eq!(rt; end, 16);
     assert!(rt; get_approval_name(bytes, 1)?.is_none());
     Ok(())
@@ -247,5 +285,63 @@ fn gates_are_written_and_read(rt: HostRuntime) -> Result<(), Fail> {
         assert_eq!(rt; end, bytes.len());
     }
     assert!(rt; get_gate(alloc, b"\x02\0\0\0\0", 0)?.is_none());
+    Ok(())
+}
+
+// The input of a release of a submission that was accepted at 10, behind two openings.
+fn input_at(alloc: Global, release: u32) -> Result<ReleaseInput, Fail>
+    requires { release ≤ 2 }
+{
+    let opened = [
+        Opening::new(Gate::Rule { place: 4 }, 20),
+        Opening::new(Gate::Object { key: key(alloc)? }, 30),
+    ];
+    let sent = Arc::new(alloc, submission(alloc)?)?;
+    Ok(ReleaseInput::at(alloc, 1, 5, 10, sent, &opened, release)?)
+}
+
+#[test]
+fn the_first_release_is_that_of_acceptance(rt: HostRuntime) -> Result<(), Fail> {
+    let input = input_at(rt.alloc(), 0)?;
+    assert_eq!(rt; input.release(), 0);
+    assert_eq!(rt; input.made(), 10);
+    assert!(rt; input.before().is_none());
+    assert!(rt; input.opened().is_empty());
+    Ok(())
+}
+
+#[test]
+fn an_opening_makes_the_second_release(rt: HostRuntime) -> Result<(), Fail> {
+    let input = input_at(rt.alloc(), 1)?;
+    assert_eq!(rt; input.release(), 1);
+    assert_eq!(rt; input.made(), 20);
+    assert!(rt; matches!(input.before(), Some(before) if before.len() == 0));
+    assert!(rt; input.opened() == [Gate::Rule { place: 4 }].as_slice());
+    Ok(())
+}
+
+#[test]
+fn another_makes_the_third(rt: HostRuntime) -> Result<(), Fail> {
+    let alloc = rt.alloc();
+    let input = input_at(alloc, 2)?;
+    assert_eq!(rt; input.release(), 2);
+    assert_eq!(rt; input.made(), 30);
+    assert!(rt; matches!(input.before(), Some(before) if before.len() == 1));
+    let key = key(alloc)?;
+    assert!(rt; input.opened() == [Gate::Rule { place: 4 }, Gate::Object { key }].as_slice());
+    Ok(())
+}
+
+#[test]
+fn a_message_without_an_id_gets_the_hubs_own(rt: HostRuntime) -> Result<(), Fail> {
+    let alloc = rt.alloc();
+    let bytes = Bytes::of(alloc, b"Subject: Hi\r\n\r\nHi\r\n")?;
+    let submission = Submission::new(alloc, Origin::Smtp, None, keys(alloc)?, bytes);
+    let submission = submission.ok().ok_or("no submission")?;
+    let message = submission.base_message(alloc, 7)?;
+    let id = message.field(alloc, b"Message-Id")?.ok_or("no id")?;
+    assert_eq!(rt; id.as_slice(), b"<7@hub.invalid>".as_slice());
+    let text = submission.base_text(alloc, 7)?;
+    assert!(rt; message.bytes(alloc)?.same(&text));
     Ok(())
 }

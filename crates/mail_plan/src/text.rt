@@ -2,12 +2,13 @@
 ghost use Rattle.std.specs.Prelude.{◌≡◌, ◌++◌, OnOk, IfOk, option_copied};
 ghost use Rattle.mail_names.specs.Key.{IsKey};
 ghost use Rattle.mail_names.specs.Names.{IsApprovalName};
-ghost use Rattle.mail_plan.specs.Entries.{IsU32, IsBytes, IsKeyOption, IsListOf, IsName, IsGate, IsWhy, IsItem, IsHold, IsEnd, IsRelease, IsOrigin, IsSubmission, IsEntry};
-ghost use Rattle.mail_plan.specs.EntryText.{le32, le64, form_bytes, form_key_option, form_all, form_mark, form_name, form_approval, form_gate, form_kind, form_why, form_item, form_tell, form_hold, form_end, form_release, form_origin, form_submission, entry_text};
+ghost use Rattle.mail_plan.specs.Entries.{IsU32, IsBytes, IsKeyOption, IsListOf, IsName, IsGate, IsWhy, IsItem, IsHold, IsEnd, IsRelease, IsOrigin, IsSubmission, IsDecided, IsEntry};
+ghost use Rattle.mail_plan.specs.EntryText.{le32, le64, form_bytes, form_key_option, form_all, form_mark, form_name, form_approval, form_gate, form_kind, form_why, form_item, form_tell, form_hold, form_end, form_release, form_origin, form_submission, form_verdict, form_decided, entry_text};
 
 use crate::{End, Entry, Hold, Item, ItemKind, Origin, Release, Submission};
 use journal_report::Why;
 use mail_names::{ApprovalName, Bytes, Gate, ItemName, Key, Mark, NoMemory};
+use moderation::Verdict;
 use org_directory::Tell;
 use std::alloc::Global;
 
@@ -308,6 +309,31 @@ fn put_submission(into: &mut Bytes, value: &Submission) -> Result<(), NoMemory>
     put_slice(into, value.bytes())
 }
 
+fn put_verdict(into: &mut Bytes, value: Verdict) -> Result<(), NoMemory>
+    ensures { OnOk result (into.new ≡ into.old ++ form_verdict value) }
+{
+    match value {
+        Verdict::Approve => into.add(&[0]),
+        Verdict::Reject => into.add(&[1]),
+    }
+}
+
+fn put_decided(
+    into: &mut Bytes,
+    approval: &ApprovalName,
+    by: &Key,
+    verdict: Verdict,
+    moment: u64,
+) -> Result<(), NoMemory>
+    ensures text { OnOk result (into.new ≡ into.old ++ form_decided (approval.now, by.now, verdict, moment)) }
+    ensures fits { OnOk result (IsDecided (approval.now, by.now, verdict, moment)) }
+{
+    put_approval_name(into, approval)?;
+    put_key(into, by)?;
+    put_verdict(into, verdict)?;
+    put_u64(into, moment)
+}
+
 fn put_entry(into: &mut Bytes, entry: &Entry) -> Result<(), NoMemory>
     ensures text { OnOk result (into.new ≡ into.old ++ entry_text entry.now) }
     ensures fits { OnOk result (IsEntry entry.now) }
@@ -332,6 +358,15 @@ fn put_entry(into: &mut Bytes, entry: &Entry) -> Result<(), NoMemory>
             put_u64(into, *number)?;
             put_u32(into, *release)?;
             put_release(into, plan)
+        }
+        Entry::Decided {
+            approval,
+            by,
+            verdict,
+            moment,
+        } => {
+            into.add(&[4])?;
+            put_decided(into, approval, by, *verdict, *moment)
         }
         Entry::Moment { moment } => {
             into.add(&[5])?;

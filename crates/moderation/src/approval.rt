@@ -1,6 +1,6 @@
 // Approvals.
-ghost use Rattle.std.specs.Prelude.{◌≡◌, ◌+◌, ◌<◌, ◌≤◌, length, position, bytes_eq};
-ghost use Rattle.moderation.specs.Approval.{IsStateOf, asked, decide_answer, decided, runs_out, expired};
+ghost use Rattle.std.specs.Prelude.{◌≡◌, ℕ, ◌+◌, ◌<◌, ◌≤◌, Some, length, position, bytes_eq};
+ghost use Rattle.moderation.specs.Approval.{IsStateOf, answer, asked, decide_answer, decided, runs_out, expired};
 
 use mail_names::{Gate, Items, Key, LAST_MOMENT};
 use std::marker::Model;
@@ -130,6 +130,28 @@ impl Approval {
         self.state
     }
 
+    // What would become of a decision that a moderator makes at a moment.
+    fn moderator_answer(&self, moment: u64) -> Decision
+        ensures { (place : ℕ) → result ≡ answer (Some place) self.now.state self.now.deadline moment }
+    {
+        let deadline = self.made + APPROVAL_TIME;
+        match self.state {
+            ApprovalState::Decided { by, verdict } => Decision::Already { by, verdict },
+            ApprovalState::Pending if moment < deadline => Decision::Taken,
+            _ => Decision::Expired { deadline },
+        }
+    }
+
+    /// What would become of a decision that a key makes at a moment. It takes no memory, and changes nothing.
+    pub fn answer(&self, by: &Key, moment: u64) -> Decision
+        ensures { result ≡ decide_answer self.now by.now moment }
+    {
+        match place_of(self.moderators.as_slice(), by) {
+            Some(_) => self.moderator_answer(moment),
+            None => Decision::NotModerator,
+        }
+    }
+
     /// Takes a decision that a key makes at a moment, where it counts. It takes no memory.
     ///
     /// The answers are judged in the order of `Decision`. All but `Taken` leave the approval as it was.
@@ -140,14 +162,12 @@ impl Approval {
         let Some(place) = place_of(self.moderators.as_slice(), by) else {
             return Decision::NotModerator;
         };
-        let deadline = self.made + APPROVAL_TIME;
-        match self.state {
-            ApprovalState::Decided { by, verdict } => Decision::Already { by, verdict },
-            ApprovalState::Pending if moment < deadline => {
+        match self.moderator_answer(moment) {
+            Decision::Taken => {
                 self.state = ApprovalState::Decided { by: place, verdict };
                 Decision::Taken
             }
-            _ => Decision::Expired { deadline },
+            answer => answer,
         }
     }
 

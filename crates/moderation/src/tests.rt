@@ -52,6 +52,7 @@ fn the_first_decision_counts(rt: HostRuntime) -> Result<(), Fail> {
         (&max, Verdict::Reject, DEADLINE, already),
         (&bob, Verdict::Reject, DEADLINE, Decision::NotModerator),
     ] {
+        assert_eq!(rt; approval.answer(by, moment), answer, "at {moment}");
         assert_eq!(rt; approval.decide(by, verdict, moment), answer, "at {moment}");
     }
     assert!(rt; !approval.expire(DEADLINE));
@@ -68,6 +69,9 @@ fn at_the_deadline_it_is_too_late(rt: HostRuntime) -> Result<(), Fail> {
     let mut approval = asked(rt.alloc())?;
     let mia = key(rt.alloc(), "mia@example.com")?;
     let expired = Decision::Expired { deadline: DEADLINE };
+    assert_eq!(rt; approval.answer(&mia, DEADLINE - 1), Decision::Taken);
+    assert_eq!(rt; approval.answer(&mia, DEADLINE), expired);
+    assert_eq!(rt; approval.state(), ApprovalState::Pending);
     assert_eq!(rt; approval.decide(&mia, Verdict::Approve, DEADLINE), expired);
     assert_eq!(rt; approval.state(), ApprovalState::Pending);
     assert!(rt; !approval.expire(DEADLINE - 1));

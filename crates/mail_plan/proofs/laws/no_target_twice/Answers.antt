@@ -1,4 +1,4 @@
-use Rattle.std.proofs.Common.{ℕ, zero, suc, arith}
+use Rattle.std.proofs.Common.{zero, suc, arith}
 use Rattle.mail_plan.proofs.Chains.{continues}
 use Rattle.mail_plan.proofs.laws.no_target_twice.Goals as goal
 

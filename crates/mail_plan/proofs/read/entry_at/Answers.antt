@@ -1,7 +1,7 @@
-use Rattle.mail_plan.specs.EntryText.{form_organised, form_accepted, form_categorised, entry_text}
-use Rattle.mail_plan.specs.Entries.{IsOrganised, IsAccepted, IsCategorised, IsEntry}
+use Rattle.mail_plan.specs.EntryText.{form_organised, form_accepted, form_categorised, form_decided, entry_text}
+use Rattle.mail_plan.specs.Entries.{IsOrganised, IsAccepted, IsCategorised, IsDecided, IsEntry}
 use Rattle.mail_plan.proofs.Parts.{IsByte, form_byte, passed_on}
-use Rattle.mail_plan.proofs.ByKind.{tagged, has_organised, has_accepted, has_categorised}
+use Rattle.mail_plan.proofs.ByKind.{tagged, has_organised, has_accepted, has_categorised, has_decided}
 use Rattle.mail_plan.proofs.read.entry_at.Goals as goal
 
 pub returns-in_err-kind : goal.returns-in_err-kind
@@ -26,3 +26,9 @@ returns-in_err-number-in-3 c =
     passed_on IsCategorised form_categorised IsEntry entry_text c.args.bytes.now c.args.at c.in_ok-kind.start c.in_err-number-in-3.field-0.0 c.from_residual-in_err-number-in-3.result c.from_residual-in_err-number-in-3.ensures.1
     (has_categorised c.in_ok-kind.kind c.args.bytes.now c.args.at c.in_ok-kind.start c.in_ok-kind.ensures c.in-3.is)
     c.in_err-number-in-3.ensures
+
+pub returns-in_err-approval-in-4 : goal.returns-in_err-approval-in-4
+returns-in_err-approval-in-4 c =
+    passed_on IsDecided form_decided IsEntry entry_text c.args.bytes.now c.args.at c.in_ok-kind.start c.in_err-approval-in-4.field-0.0 c.from_residual-in_err-approval-in-4.result c.from_residual-in_err-approval-in-4.ensures.1
+    (has_decided c.in_ok-kind.kind c.args.bytes.now c.args.at c.in_ok-kind.start c.in_ok-kind.ensures c.in-4.is)
+    c.in_err-approval-in-4.ensures
