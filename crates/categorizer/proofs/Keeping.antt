@@ -15,7 +15,7 @@ use Rattle.mail_plan.specs.declared.release.Hold.{Hold}
 use Rattle.mail_plan.specs.declared.release.Release.{Release}
 use Rattle.categorizer.specs.declared.parts.Content.{Content}
 use Rattle.categorizer.specs.declared.parts.Draft.{Draft}
-use Rattle.categorizer.specs.Base.{base_message}
+use Rattle.mail_plan.specs.Base.{base_message}
 use Rattle.categorizer.specs.Growth.{ExpansionGrows, PlanGrows}
 use Rattle.categorizer.specs.Organisation.{Organisation, organisation_of}
 use Rattle.categorizer.specs.Plan.{Case, plan, plan_before, gates_before, news, is_target, firsts, kept, beside, judged_in, closed_gates, held_rules, is_new_gate}

@@ -1,4 +1,3 @@
-pub mod Base
 pub mod Growth
 pub mod Organisation
 pub mod Plan

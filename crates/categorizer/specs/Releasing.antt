@@ -16,10 +16,11 @@ use Rattle.rule_terms.specs.declared.action.Action.{Action}
 use Rattle.rule_terms.specs.declared.action.Action.TheVariants as actions
 use Rattle.rule_terms.specs.declared.rule.Rule.{Rule}
 use Rattle.rule_engine.specs.Run.{distinct, place_of}
+use Rattle.mail_notices.specs.About.{about_of}
 use Rattle.mail_notices.specs.Text.{notice_text}
 use Rattle.mail_notices.specs.declared.kinds.Notice.{Notice}
 use Rattle.mail_notices.specs.declared.kinds.Notice.TheVariants as notices
-use Rattle.mail_plan.specs.Base.{base_text}
+use Rattle.mail_plan.specs.Base.{base_text, base_message}
 use Rattle.mail_plan.specs.Planning.{Input}
 use Rattle.mail_plan.specs.declared.release.End.{End}
 use Rattle.mail_plan.specs.declared.release.End.TheVariants as stops
@@ -27,7 +28,6 @@ use Rattle.mail_plan.specs.declared.release.Hold.{Hold}
 use Rattle.mail_plan.specs.declared.release.Item.{Item}
 use Rattle.mail_plan.specs.declared.release.ItemKind.TheVariants as kinds
 use Rattle.mail_plan.specs.declared.release.Release.{Release}
-use Rattle.categorizer.specs.Base.{base_message, about_of}
 use Rattle.categorizer.specs.Organisation.{Organisation}
 use Rattle.categorizer.specs.Plan.{Case, news}
 use Rattle.categorizer.specs.declared.parts.Content.{Content}

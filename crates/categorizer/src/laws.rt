@@ -3,7 +3,7 @@ ghost use Rattle.std.specs.Prelude.{◌≡◌, ◌++◌, ℕ, List, Ok, true, fa
 ghost use Rattle.mail_names.specs.declared.gate.Gate.{Gate};
 ghost use Rattle.mail_plan.specs.Planning.{Input, Continues, is_release, is_among, are_distinct, is_gate_among, are_distinct_gates, targets, gates_of};
 ghost use Rattle.categorizer.specs.Organisation.{Organisation, organisation_of};
-ghost use Rattle.categorizer.specs.Base.{base_message};
+ghost use Rattle.mail_plan.specs.Base.{base_message};
 ghost use Rattle.categorizer.specs.Growth.{PlanGrows};
 ghost use Rattle.categorizer.specs.Plan.{plan};
 ghost use Rattle.categorizer.specs.Releasing.{case_of, hub_release};

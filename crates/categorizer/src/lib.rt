@@ -1,12 +1,12 @@
 //! The releases of a submission, by the directory and the rules of an organisation.
 #![tactic(auto)]
 
-mod base;
 mod content;
 mod copies;
 mod drafts;
 mod holds;
 pub mod laws;
+mod letter;
 mod losses;
 mod making;
 mod news;

@@ -3,10 +3,10 @@ ghost use Rattle.std.specs.Prelude.{◌≡◌, map, IfOk};
 ghost use Rattle.categorizer.specs.Releasing.{end_of, release_from, release_of, hub_release};
 
 use crate::HubOrg;
-use crate::base::{base_message, letter_of};
 use crate::content::content_of;
 use crate::copies::copied_keys;
 use crate::drafts::drafts_of;
+use crate::letter::letter_of;
 use crate::numbering::numbered;
 use crate::parts::{Content, Draft, Loss};
 use mail_message::Message;
@@ -89,6 +89,7 @@ fn release_of(
 pub fn release(alloc: Global, org: &HubOrg, input: &ReleaseInput) -> Result<Release, NoMemory>
     ensures { IfOk result (λ made. made ≡ hub_release org.now input.now) }
 {
-    let message = base_message(alloc, input)?;
+    let submission = input.submission();
+    let message = submission.base_message(alloc, input.number())?;
     release_of(alloc, org, input, &message)
 }

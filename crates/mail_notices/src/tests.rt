@@ -2,6 +2,7 @@ ghost use Rattle.std.specs.Prelude.{◌≤◌};
 
 use crate::{About, Notice, notice};
 use journal_report::Why;
+use mail_message::Message;
 use mail_names::{ApprovalName, Bytes, ItemName, Items, Key, Mark};
 use std::alloc::Global;
 use std::test::Fail;
@@ -230,4 +231,20 @@ fn notices_on_delivery(rt: HostRuntime) -> Result<(), Fail> {
         "Message undeliverable",
         "Undeliverable: bob@example.com.\nTries ended at 1772496001.\n",
     )
+}
+
+#[test]
+fn a_control_byte_is_told_as_a_question_mark(rt: HostRuntime) -> Result<(), Fail> {
+    let alloc = rt.alloc();
+    let original = Bytes::of(alloc, b"Subject: One\ttwo\r\n\r\nHi\r\n")?;
+    let message = Message::read(alloc, original.as_slice());
+    let message = message.ok().ok_or("no message")?;
+    let about = About::of(alloc, 7, &message, original)?;
+    if about.number != 7 || !about.message_id.as_slice().is_empty() {
+        return Err("an id".into());
+    }
+    if about.subject.as_slice() != b"One?two".as_slice() {
+        return Err("another subject".into());
+    }
+    Ok(())
 }
