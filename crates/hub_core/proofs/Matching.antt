@@ -12,7 +12,7 @@ use Rattle.mail_plan.specs.declared.submission.Origin.TheVariants as origins
 use Rattle.hub_core.specs.declared.part.Part.{Part}
 use Rattle.hub_core.specs.declared.part.Difference.{Difference}
 use Rattle.hub_core.specs.Setup.{Texts}
-use Rattle.hub_core.specs.Differing.{place_where, bytes_differ, keys_differ, gates_differ, numbers_differ, options_differ, origins_differ, or_behind, submissions_differ, orgs_differ, first_difference}
+use Rattle.hub_core.specs.Differing.{place_where, bytes_differ, keys_differ, gates_differ, numbers_differ, options_differ, origins_differ, or_behind, submissions_differ, first_difference}
 
 some≢none : {X : Type 0} (x : X) → Some x ≡ None → ⊥
 some≢none x e = cc

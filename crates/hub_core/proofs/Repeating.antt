@@ -1,6 +1,6 @@
 -- What repeats a submission has its digest.
-use Rattle.std.proofs.Common.{◌≡◌, ℕ, zero, suc, ◌+◌, Bool, true, false, cond, List, [], ◌∷◌, ◌++◌, length, Option, Some, None, refl, ap, ◌∙◌, sym}
-use Rattle.std.specs.Prelude.{◌&&◌, ◌||◌, slice_get, slice_set, bytes_eq, fold}
+use Rattle.std.proofs.Common.{◌≡◌, ℕ, ◌+◌, Bool, true, false, cond, List, [], ◌∷◌, ◌++◌, length, Option, Some, None, refl, ap, ◌∙◌, sym}
+use Rattle.std.specs.Prelude.{◌&&◌, ◌||◌, map, slice_get, bytes_eq, fold}
 use Rattle.std.specs.List.{position_from}
 use Rattle.std.specs.Cmp.Lexicographic.{pointwise}
 use Rattle.std.specs.BTreeMap.{BTreeMap}
@@ -9,8 +9,10 @@ use Rattle.std.proofs.lemmas.Slice.Eq.{bytes_eq-Decides}
 use Rattle.mail_plan.specs.Submission.{Submitted, option_eq, same_mark, same_submission, has_message_id}
 use Rattle.mail_plan.specs.declared.submission.Origin.{Origin}
 use Rattle.mail_plan.specs.declared.submission.Origin.TheVariants as origins
-use Rattle.hub_core.specs.Standing.{Mail, place_of_same, mark, mark_at}
+use Rattle.hub_core.specs.Mail.{Mail}
+use Rattle.hub_core.specs.Standing.{place_of_same}
 use Rattle.hub_core.specs.Repeats.{chained, path_octets, digest_under, digest_from, digest_of, is_digest, has_digest, found_or, place_at, IsIndex, repeats_at}
+use Rattle.hub_core.proofs.Room.{submission_of}
 use Rattle.hub_core.proofs.First.{position-none, position-agrees, position-never, position-push}
 
 true≢false : true ≡ false → ⊥
@@ -109,25 +111,17 @@ place-hit s index lives digest place indexed own at again =
     let there = stands (slice_get lives place) s again in
     position-agrees (λ (live : Mail). same_submission live.submission s) (has_digest digest) lives place there.0 (narrower s digest own) there.1 there.2 (sym (indexed digest) ∙ at)
 
-marked_from : (digest : List ℕ) (n : ℕ) (lives : List Mail) (k : ℕ) (live : Mail) → slice_get lives k ≡ Some live →
-    position_from (has_digest digest) n (slice_set lives k (record live { org = None })) ≡ position_from (has_digest digest) n lives
-marked_from digest n [] k live e = refl
-marked_from digest n (l ∷ lives) zero live e =
-    let same : l ≡ live = cc in
-    ap (λ (x : Mail). cond (has_digest digest x) (Some n) (position_from (has_digest digest) (n + 1) lives)) (sym same)
-marked_from digest n (l ∷ lives) (suc k) live e =
-    ap (λ rest. cond (has_digest digest l) (Some n) rest) (marked_from digest (n + 1) lives k live e)
+by_submissions : (digest : List ℕ) (k : ℕ) (live : List Mail) → position_from (has_digest digest) k live ≡ position_from (λ s. is_digest digest (digest_of s)) k (map submission_of live)
+by_submissions digest k [] = refl
+by_submissions digest k (mail ∷ live) =
+    ap (λ rest. cond (has_digest digest mail) (Some k) rest) (by_submissions digest (k + 1) live)
 
-marked_at : (digest : List ℕ) (lives : List Mail) (place : ℕ) (at : Option Mail) → slice_get lives place ≡ at →
-    position_from (has_digest digest) 0 (mark_at lives place at) ≡ position_from (has_digest digest) 0 lives
-marked_at digest lives place None e = refl
-marked_at digest lives place (Some live) e = marked_from digest 0 lives place live e
-
--- an index stays one where a submission is marked
-pub index-marked : (index : BTreeMap (List ℕ) ℕ) (lives : List Mail) (place : ℕ) → IsIndex index lives → IsIndex index (mark place lives)
-index-marked index lives place indexed = λ digest.
-    indexed digest ∙ position_from-zero (has_digest digest) lives ∙ sym (marked_at digest lives place (slice_get lives place) refl)
-    ∙ sym (position_from-zero (has_digest digest) (mark place lives))
+-- an index stays one as long as the submissions stay
+pub index-same : (index : BTreeMap (List ℕ) ℕ) (live live' : List Mail) → map submission_of live ≡ map submission_of live' → IsIndex index live → IsIndex index live'
+index-same index live live' same indexed = λ digest.
+    indexed digest ∙ position_from-zero (has_digest digest) live ∙ by_submissions digest 0 live
+    ∙ ap (position_from (λ s. is_digest digest (digest_of s)) 0) same ∙ sym (by_submissions digest 0 live')
+    ∙ sym (position_from-zero (has_digest digest) live')
 
 -- an index with the place of one submission more
 pub index-pushed : (old new : BTreeMap (List ℕ) ℕ) (lives : List Mail) (live : Mail) → IsIndex old lives →

@@ -1,48 +1,96 @@
--- The items that a history prescribes, from its accepted submissions alone, and those of them that it delivered.
-use Rattle.std.specs.Prelude.{◌≡◌, ◌⊎◌, ℕ, ◌+◌, ◌-◌, ◌≤◌, true, List, [], ◌∷◌, ◌++◌, slice_get, Some}
+-- The items that a history prescribes, from what it accepted and decided, and those of them that it delivered.
+use Rattle.std.specs.Prelude.{◌≡◌, ◌⊎◌, ℕ, zero, suc, ◌+◌, ◌-◌, ◌≤◌, true, List, [], ◌∷◌, ◌++◌, length, fold, slice_get, Option, Some, None}
+use Rattle.mail_names.specs.declared.gate.Gate.{Gate}
+use Rattle.mail_names.specs.declared.name.ApprovalName.{ApprovalName}
 use Rattle.mail_names.specs.declared.name.ItemName.{ItemName}
+use Rattle.moderation.specs.declared.approval.Verdict.{Verdict}
+use Rattle.moderation.specs.declared.approval.Verdict.TheVariants as verdicts
+use Rattle.mail_plan.specs.Planning.{Opening, first_input, input_at, gates_of}
 use Rattle.mail_plan.specs.Submission.{Submitted}
 use Rattle.mail_plan.specs.declared.entry.Entry.{Entry}
 use Rattle.mail_plan.specs.declared.entry.Entry.TheVariants as entries
 use Rattle.mail_plan.specs.declared.release.Release.{Release}
 use Rattle.hub_core.specs.declared.queue.QueuedItem.{QueuedItem}
 use Rattle.hub_core.specs.Setup.{Texts, Setup, first_org}
-use Rattle.hub_core.specs.Standing.{standing, is_lawful, queued_all, first_input}
+use Rattle.hub_core.specs.Approvals.{changed}
+use Rattle.hub_core.specs.Standing.{Standing, start, standing, state_after, told_by, is_lawful, queued_all}
 
--- a submission as it was accepted: its moment, and the organisation that stood then, by its epoch and its texts
+-- a submission as it was accepted: its moment, the organisation that stood then, by its epoch and its texts, and the gates
+-- that were opened for it since, in order
 pub record Accepted : Type 0 where
   pub submission : Submitted
   pub moment : ℕ
   pub epoch : ℕ
   pub org : Texts
+  pub opened : List Opening
 
--- the submissions that these entries accept, in order, where this organisation stands before them
-abbrev pub accepted_from : ℕ → Texts → List Entry → List Accepted
-accepted_from epoch org [] = []
-accepted_from epoch org (entries.Organised directory rules ∷ history) =
-    accepted_from (epoch + 1) (record { directory = directory; rules = rules }) history
-accepted_from epoch org (entries.Accepted moment submission ∷ history) =
-    (record { submission = submission; moment = moment; epoch = epoch; org = org }) ∷ accepted_from epoch org history
-accepted_from epoch org (entries.Categorised number release plan ∷ history) = accepted_from epoch org history
-accepted_from epoch org (entries.Moment moment ∷ history) = accepted_from epoch org history
-accepted_from epoch org (entries.Delivered name ∷ history) = accepted_from epoch org history
+-- what entries say of submissions: the organisation that stands behind them, by its epoch and its texts, and the submissions
+-- that they accept, in order
+pub record Past : Type 0 where
+  pub epoch : ℕ
+  pub org : Texts
+  pub accepted : List Accepted
+
+abbrev pub no_past : Past
+no_past = record { epoch = 0; org = first_org; accepted = [] }
+
+-- a release of a submission of this number, by the organisation that stood when it was accepted
+abbrev pub release_for : Setup → ℕ → Accepted → ℕ → Release
+release_for setup number a release =
+    setup.release_of a.org (input_at (first_input number a.epoch a.moment a.submission) a.opened release)
+
+abbrev pub opening_of : Option Gate → ℕ → List Opening
+opening_of None moment = []
+opening_of (Some gate) moment = (record { gate = gate; moment = moment }) ∷ []
+
+-- An approval opens the gate that its release holds at its place.
+abbrev pub with_opening : Setup → ApprovalName → ℕ → Accepted → Accepted
+with_opening setup name moment a =
+    record a { opened = a.opened ++ opening_of (slice_get (gates_of (release_for setup name.submission a name.release).holds) name.gate) moment }
+
+abbrev pub decided_past : Setup → ApprovalName → Verdict → ℕ → List Accepted → List Accepted
+decided_past setup name verdicts.Approve moment all = changed (with_opening setup name moment) (name.submission - 1) all
+decided_past setup name verdicts.Reject moment all = all
+
+-- with an entry
+abbrev pub past_after : Setup → Past → Entry → Past
+past_after setup p (entries.Organised directory rules) =
+    record p { epoch = p.epoch + 1; org = record { directory = directory; rules = rules } }
+past_after setup p (entries.Accepted moment submission) =
+    record p {
+      accepted = p.accepted ++ (record { submission = submission; moment = moment; epoch = p.epoch; org = p.org; opened = [] }) ∷ [];
+    }
+past_after setup p (entries.Categorised number release plan) = p
+past_after setup p (entries.Decided name by verdict moment) =
+    record p { accepted = decided_past setup name verdict moment p.accepted }
+past_after setup p (entries.Moment moment) = p
+past_after setup p (entries.Delivered name) = p
+
+abbrev pub past : Setup → List Entry → Past
+past setup history = fold (past_after setup) no_past history
 
 -- the submissions that were accepted, in order
-abbrev pub accepted : List Entry → List Accepted
-accepted history = accepted_from 0 first_org history
+abbrev pub accepted : Setup → List Entry → List Accepted
+accepted setup history = (past setup history).accepted
 
--- the first release of a submission of this number, by the organisation that stood when it was accepted
-abbrev pub release_for : Setup → ℕ → Accepted → Release
-release_for setup number a = setup.release_of a.org (first_input number a.epoch a.moment a.submission)
+-- the items of the first releases of a submission, so many
+abbrev pub items_to : Setup → ℕ → Accepted → ℕ → List QueuedItem
+items_to setup number a zero = []
+items_to setup number a (suc release) = items_to setup number a release ++ queued_all (release_for setup number a release)
 
--- the items of these submissions, the first of which has this number
+-- the items of these submissions, the first of which has this number: each has a release, and one for each gate that was opened
 abbrev pub items_of : Setup → ℕ → List Accepted → List QueuedItem
 items_of setup number [] = []
-items_of setup number (a ∷ more) = queued_all (release_for setup number a) ++ items_of setup (number + 1) more
+items_of setup number (a ∷ more) = items_to setup number a (suc (length a.opened)) ++ items_of setup (number + 1) more
 
--- the items that a history prescribes
+-- the notices that entries make behind those that left this state
+abbrev pub notices_from : Setup → Standing → List Entry → List QueuedItem
+notices_from setup s [] = []
+notices_from setup s (entry ∷ history) = told_by setup s entry ++ notices_from setup (state_after setup s entry) history
+
+-- the items that a history prescribes: those of releases, and the notices of approvals that were refused or ran out
 abbrev pub items : Setup → List Entry → List QueuedItem
-items setup history = items_of setup 1 (accepted history)
+items setup history = items_of setup 1 (accepted setup history) ++ notices_from setup (start setup) history
 
 -- the item is one of these
 abbrev pub Among : QueuedItem → List QueuedItem → Type 0
@@ -56,14 +104,17 @@ IsDelivered name (entries.Delivered other ∷ history) = (name ≡ other) ⊎ Is
 IsDelivered name (entries.Organised directory rules ∷ history) = IsDelivered name history
 IsDelivered name (entries.Accepted moment submission ∷ history) = IsDelivered name history
 IsDelivered name (entries.Categorised number release plan ∷ history) = IsDelivered name history
+IsDelivered name (entries.Decided approval by verdict moment ∷ history) = IsDelivered name history
 IsDelivered name (entries.Moment moment ∷ history) = IsDelivered name history
 
 -- A Categorised entry carries the release of an accepted submission.
 abbrev pub CarriesRelease : Setup → List Entry → Entry → Type 0
 CarriesRelease setup before (entries.Categorised number release plan) =
-    (a : Accepted) × (1 ≤ number) × (slice_get (accepted before) (number - 1) ≡ Some a) × (plan ≡ release_for setup number a)
+    (a : Accepted) × (1 ≤ number) × (slice_get (accepted setup before) (number - 1) ≡ Some a) × (release ≤ length a.opened)
+    × (plan ≡ release_for setup number a release)
 CarriesRelease setup before (entries.Organised directory rules) = Unit {0}
 CarriesRelease setup before (entries.Accepted moment submission) = Unit {0}
+CarriesRelease setup before (entries.Decided name by verdict moment) = Unit {0}
 CarriesRelease setup before (entries.Moment moment) = Unit {0}
 CarriesRelease setup before (entries.Delivered name) = Unit {0}
 

@@ -1,6 +1,9 @@
+pub mod Approvals
+pub mod Differing
+pub mod Ending
+pub mod Items
+pub mod Mail
+pub mod Repeats
+pub mod Replies
 pub mod Setup
 pub mod Standing
-pub mod Differing
-pub mod Replies
-pub mod Items
-pub mod Repeats

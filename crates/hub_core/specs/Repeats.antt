@@ -7,7 +7,7 @@ use Rattle.sha2.specs.Sha256.{sha256}
 use Rattle.mail_plan.specs.Submission.{Submitted, has_message_id, same_submission}
 use Rattle.mail_plan.specs.declared.submission.Origin.{Origin}
 use Rattle.mail_plan.specs.declared.submission.Origin.TheVariants as origins
-use Rattle.hub_core.specs.Standing.{Mail}
+use Rattle.hub_core.specs.Mail.{Mail}
 
 -- the octets of a reverse path, none for the null sender
 abbrev pub path_octets : Option (List ℕ) → List ℕ

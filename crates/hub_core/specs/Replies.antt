@@ -1,7 +1,10 @@
 -- What the hub answers.
-use Rattle.std.specs.Prelude.{◌&&◌, ◌==◌, nat_le, ℕ, ◌+◌, ◌-◌, Bool, true, false, if◌then◌else◌, length, slice_get, Option, Some, None}
+use Rattle.std.specs.Prelude.{ℕ, ◌+◌, ◌-◌, Bool, true, false, if◌then◌else◌, List, length, slice_get, Option, Some, None}
 use Rattle.std.specs.List.{list_any}
+use Rattle.mail_names.specs.declared.name.ApprovalName.{ApprovalName}
 use Rattle.mail_names.specs.declared.name.ItemName.{ItemName}
+use Rattle.moderation.specs.declared.approval.Decision.{Decision}
+use Rattle.moderation.specs.declared.approval.Verdict.{Verdict}
 use Rattle.mail_plan.specs.Planning.{Input}
 use Rattle.mail_plan.specs.Submission.{Submitted}
 use Rattle.mail_plan.specs.declared.planner.OrgFault.{OrgFault}
@@ -11,7 +14,9 @@ use Rattle.hub_core.specs.declared.command.Reply.{Reply}
 use Rattle.hub_core.specs.declared.command.Reply.TheVariants as replies
 use Rattle.hub_core.specs.declared.part.Difference.{Difference}
 use Rattle.hub_core.specs.Setup.{Texts, Setup}
-use Rattle.hub_core.specs.Standing.{Mail, Standing, same_texts, has_epoch, live_epochs, has_room, live_bytes, place_of_same, is_named, input_of}
+use Rattle.hub_core.specs.Approvals.{Stage}
+use Rattle.hub_core.specs.Mail.{Mail, input_of}
+use Rattle.hub_core.specs.Standing.{Standing, now_of, same_texts, has_epoch, live_epochs, has_room, live_bytes, place_of_same, is_named, mail_of, decision_of}
 use Rattle.hub_core.specs.Differing.{first_difference}
 
 abbrev pub reply_other : Standing → Reply
@@ -43,19 +48,29 @@ reply_input (Some differs) = replies.NotItsInput differs.part differs.at
 reply_input None = replies.Committed
 
 abbrev pub reply_waiting : ℕ → Mail → Input → Texts → Option Texts → Reply
-reply_waiting number mail input org None = replies.Already
-reply_waiting number mail input org (Some own) = reply_input (first_difference (input_of number mail) own input org)
+reply_waiting number mail input org None = replies.Unknown
+reply_waiting number mail input org (Some own) = reply_input (first_difference (input_of number mail input.release) own input org)
+
+abbrev pub reply_stage : ℕ → Mail → Input → Texts → Option Stage → Reply
+reply_stage number mail input org None = replies.Unknown
+reply_stage number mail input org (Some (Some asks)) = replies.Already
+reply_stage number mail input org (Some None) = reply_waiting number mail input org mail.org
 
 abbrev pub reply_mail : ℕ → Option Mail → Input → Texts → Reply
 reply_mail number None input org = replies.Unknown
-reply_mail number (Some mail) input org = reply_waiting number mail input org mail.org
+reply_mail number (Some mail) input org = reply_stage number mail input org (slice_get mail.stages input.release)
 
 -- An outcome is taken where it was made from the input of a release that waits to be categorised, by its organisation.
 abbrev pub reply_commit : Standing → Input → Texts → Reply
-reply_commit s input org =
-    if (input.release == 0) && nat_le 1 input.number
-    then reply_mail input.number (slice_get s.live (input.number - 1)) input org
-    else replies.Unknown
+reply_commit s input org = reply_mail input.number (mail_of s input.number) input org
+
+abbrev pub reply_decision : Option Decision → Reply
+reply_decision None = replies.NoSuchApproval
+reply_decision (Some decision) = replies.Decided decision
+
+-- A decision is answered where there is such an approval. Approving needs a release that can follow.
+abbrev pub reply_decide : Standing → ApprovalName → List ℕ → Verdict → ℕ → Reply
+reply_decide s name by verdict clock = reply_decision (decision_of s name by verdict (now_of s clock))
 
 abbrev pub reply_delivered : Standing → ItemName → Reply
 reply_delivered s name = if list_any (is_named name) s.waiting then replies.Done else replies.NotNow
@@ -65,5 +80,6 @@ abbrev pub reply_to : {T Org : Type 0} → (Org → Texts) → Setup → Standin
 reply_to texts setup s (commands.Organise directory rules) = reply_organise setup s (record { directory = directory; rules = rules })
 reply_to texts setup s (commands.Submit submission clock) = reply_submit s submission
 reply_to texts setup s (commands.Commit outcome) = reply_commit s outcome.1 (texts outcome.0)
+reply_to texts setup s (commands.Decide approval by verdict clock) = reply_decide s approval by verdict clock
 reply_to texts setup s (commands.Moment clock) = replies.Done
 reply_to texts setup s (commands.Delivered name) = reply_delivered s name

@@ -1,5 +1,5 @@
 -- How a hub is set up: the limits that it is held to, and what its planner makes of organisations.
-use Rattle.std.specs.Prelude.{ℕ, List, [], Option, Some, None, Result, Ok, Err}
+use Rattle.std.specs.Prelude.{ℕ, Bool, false, List, [], Option, Some, None, Result, Ok, Err}
 use Rattle.mail_plan.specs.Planning.{Input, first_directory}
 use Rattle.mail_plan.specs.declared.planner.OrgFault.{OrgFault}
 use Rattle.mail_plan.specs.declared.release.Release.{Release}
@@ -17,11 +17,13 @@ texts_of directory_of rules_of org = record { directory = directory_of org; rule
 abbrev pub first_org : Texts
 first_org = record { directory = first_directory; rules = [] }
 
--- the limits, the fault of texts that are no organisation's, and the release of an input by the organisation of texts
+-- the limits, the fault of texts that are no organisation's, and of the organisation of texts the release of an input, and
+-- who is inside
 pub record Setup : Type 0 where
   pub limits : Limits
   pub fault_of : Texts → Option OrgFault
   pub release_of : Texts → Input → Release
+  pub inside : Texts → List ℕ → Bool
 
 abbrev pub no_release : Release
 no_release = record { texts = []; items = []; holds = []; ends = [] }
@@ -34,10 +36,15 @@ abbrev pub release_in : {Org : Type 0} → (Org → Input → Release) → Resul
 release_in release_of (Ok org) input = release_of org input
 release_in release_of (Err fault) input = no_release
 
--- the setup of a hub over a planner that reads organisations and makes releases so
-abbrev pub setup_of : {Org : Type 0} → (List ℕ → List ℕ → Result Org OrgFault) → (Org → Input → Release) → Limits → Setup
-setup_of reads release_of limits = record {
+abbrev pub inside_in : {Org : Type 0} → (Org → List ℕ → Bool) → Result Org OrgFault → List ℕ → Bool
+inside_in inside (Ok org) key = inside org key
+inside_in inside (Err fault) key = false
+
+-- the setup of a hub over a planner that reads organisations, makes releases and knows who is inside so
+abbrev pub setup_of : {Org : Type 0} → (List ℕ → List ℕ → Result Org OrgFault) → (Org → Input → Release) → (Org → List ℕ → Bool) → Limits → Setup
+setup_of reads release_of inside limits = record {
   limits = limits;
   fault_of = λ texts. fault_in (reads texts.directory texts.rules);
   release_of = λ texts input. release_in release_of (reads texts.directory texts.rules) input;
+  inside = λ texts key. inside_in inside (reads texts.directory texts.rules) key;
 }

@@ -1,9 +1,13 @@
 -- The state that a history leaves, and what it answers.
-use Rattle.std.specs.Prelude.{◌≡◌, ◌&&◌, ◌==◌, not, nat_le, nat_lt, ℕ, ◌+◌, ◌-◌, ◌%◌, min, max, Bool, true, false, if◌then◌else◌, List, [], ◌∷◌, ◌++◌, length, map, fold, position, slice_get, slice_set, bytes_eq, unwrap_or, Option, Some, None, is_some, Result, Ok, Err}
+use Rattle.std.specs.Prelude.{◌≡◌, ◌&&◌, ◌==◌, not, nat_le, nat_lt, ℕ, ◌+◌, ◌-◌, ◌%◌, min, max, Bool, true, false, if◌then◌else◌, List, [], ◌∷◌, ◌++◌, length, map, fold, position, slice_get, bytes_eq, unwrap_or, option_map, Option, Some, None, is_some, Result, Ok, Err}
 use Rattle.std.specs.List.{list_any}
 use Rattle.mail_names.specs.declared.name.ItemName.{ItemName}
 use Rattle.mail_names.specs.declared.name.Mark.{Mark}
+use Rattle.mail_names.specs.declared.name.ApprovalName.{ApprovalName}
 use Rattle.mail_names.specs.declared.name.Mark.TheVariants as marks
+use Rattle.moderation.specs.declared.approval.Decision.{Decision}
+use Rattle.moderation.specs.declared.approval.Verdict.{Verdict}
+use Rattle.moderation.specs.declared.approval.Verdict.TheVariants as verdicts
 use Rattle.mail_plan.specs.Planning.{Input, is_release}
 use Rattle.mail_plan.specs.Submission.{Submitted, same_submission}
 use Rattle.mail_plan.specs.declared.release.Item.{Item}
@@ -14,15 +18,12 @@ use Rattle.hub_core.specs.declared.queue.QueuedItem.{QueuedItem}
 use Rattle.hub_core.specs.declared.limits.Limits.{Limits}
 use Rattle.hub_core.specs.declared.command.StepFault.{StepFault}
 use Rattle.hub_core.specs.declared.command.StepFault.TheVariants as faults
+use Rattle.hub_core.specs.declared.asking.Asking.{Asking}
+use Rattle.hub_core.specs.declared.live.TaskName.{TaskName}
 use Rattle.hub_core.specs.Setup.{Texts, Setup, first_org}
-
--- a submission that is remembered: when it was accepted, the epoch that stood then, and the organisation that is to plan
--- it, as long as it waits to be categorised
-pub record Mail : Type 0 where
-  pub submission : Submitted
-  pub accepted_at : ℕ
-  pub epoch : ℕ
-  pub org : Option Texts
+use Rattle.hub_core.specs.Approvals.{Stage, changed, stage_waits}
+use Rattle.hub_core.specs.Mail.{Mail, new_mail, first_waiting, is_uncategorised, categorised, asking_at, decision_in, is_taken, decided_mail, expired_mail, mail_pends}
+use Rattle.hub_core.specs.Ending.{refusal_told, all_told}
 
 -- what is kept of a history: the limits that it is held to, its greatest moment, the newest organisation with its epoch, the
 -- submissions, and the items that wait
@@ -72,19 +73,6 @@ without name (item ∷ items) = if is_named name item then items else item ∷ w
 abbrev pub place_of_same : Submitted → List Mail → Option ℕ
 place_of_same s live = position (λ (mail : Mail). same_submission mail.submission s) live
 
--- that a submission waits to be categorised
-abbrev pub is_uncategorised : Option Mail → Bool
-is_uncategorised None = false
-is_uncategorised (Some mail) = is_some mail.org
-
-abbrev pub mark_at : List Mail → ℕ → Option Mail → List Mail
-mark_at live place None = live
-mark_at live place (Some mail) = slice_set live place (record mail { org = None })
-
--- the submission at this place is categorised now
-abbrev pub mark : ℕ → List Mail → List Mail
-mark place live = mark_at live place (slice_get live place)
-
 -- an item of a release, with its text
 abbrev pub queued : List (List ℕ) → Item → QueuedItem
 queued texts item = record { name = item.name; folder = item.folder; text = unwrap_or (slice_get texts item.text) [] }
@@ -93,23 +81,58 @@ queued texts item = record { name = item.name; folder = item.folder; text = unwr
 abbrev pub queued_all : Release → List QueuedItem
 queued_all release = map (queued release.texts) release.items
 
+-- the submission of this number
+abbrev pub mail_of : Standing → ℕ → Option Mail
+mail_of s number = if nat_le 1 number then slice_get s.live (number - 1) else None
+
+-- what becomes of a decision; none where there is no such approval
+abbrev pub decision_of : Standing → ApprovalName → List ℕ → Verdict → ℕ → Option Decision
+decision_of s name by verdict moment = decision_in (mail_of s name.submission) name by verdict moment
+
+abbrev pub refused_told : Setup → ApprovalName → List ℕ → ℕ → Mail → Option Asking → List QueuedItem
+refused_told setup name by moment mail None = []
+refused_told setup name by moment mail (Some asking) = refusal_told setup name mail asking by moment
+
+abbrev pub decided_told : Setup → ApprovalName → List ℕ → ℕ → Option Mail → List QueuedItem
+decided_told setup name by moment None = []
+decided_told setup name by moment (Some mail) =
+    if is_taken (decision_in (Some mail) name by verdicts.Reject moment) then refused_told setup name by moment mail (asking_at mail name) else []
+
+-- the notice that a decision makes: that of a refusal which is taken
+abbrev pub decision_told : Setup → Standing → ApprovalName → List ℕ → Verdict → ℕ → List QueuedItem
+decision_told setup s name by verdicts.Approve moment = []
+decision_told setup s name by verdicts.Reject moment = decided_told setup name by moment (mail_of s name.submission)
+
+-- the notices that an entry makes
+abbrev pub told_by : Setup → Standing → Entry → List QueuedItem
+told_by setup s (entries.Organised directory rules) = []
+told_by setup s (entries.Accepted moment submission) = []
+told_by setup s (entries.Categorised number release plan) = []
+told_by setup s (entries.Decided name by verdict moment) = decision_told setup s name by verdict moment
+told_by setup s (entries.Moment moment) = all_told setup moment 1 s.live
+told_by setup s (entries.Delivered name) = []
+
 -- the state after an entry
-abbrev pub state_after : Standing → Entry → Standing
-state_after s (entries.Organised directory rules) =
+abbrev pub state_after : Setup → Standing → Entry → Standing
+state_after setup s (entries.Organised directory rules) =
     record s { epoch = s.epoch + 1; newest = record { directory = directory; rules = rules } }
-state_after s (entries.Accepted moment submission) =
+state_after setup s (entries.Accepted moment submission) =
+    record s { moment = moment; live = s.live ++ new_mail submission moment s.epoch s.newest ∷ [] }
+state_after setup s (entries.Categorised number release plan) =
+    record s { live = changed (categorised release plan) (number - 1) s.live; waiting = s.waiting ++ queued_all plan }
+state_after setup s (entries.Decided name by verdict moment) =
     record s {
       moment = moment;
-      live = s.live ++ (record { submission = submission; accepted_at = moment; epoch = s.epoch; org = Some s.newest }) ∷ [];
+      live = changed (decided_mail name by verdict moment) (name.submission - 1) s.live;
+      waiting = s.waiting ++ decision_told setup s name by verdict moment;
     }
-state_after s (entries.Categorised number release plan) =
-    record s { live = mark (number - 1) s.live; waiting = s.waiting ++ queued_all plan }
-state_after s (entries.Moment moment) = record s { moment = moment }
-state_after s (entries.Delivered name) = record s { waiting = without name s.waiting }
+state_after setup s (entries.Moment moment) =
+    record s { moment = moment; live = map (expired_mail moment) s.live; waiting = s.waiting ++ all_told setup moment 1 s.live }
+state_after setup s (entries.Delivered name) = record s { waiting = without name s.waiting }
 
 -- the state of a history of a hub that is set up so
 abbrev pub standing : Setup → List Entry → Standing
-standing setup history = fold state_after (start setup) history
+standing setup history = fold (state_after setup) (start setup) history
 
 -- the octets of the messages that are remembered
 abbrev pub live_bytes : List Mail → ℕ
@@ -126,7 +149,7 @@ has_room s submission =
 abbrev pub with_epoch : List ℕ → ℕ → List ℕ
 with_epoch epochs epoch = if list_any (λ e. e == epoch) epochs then epochs else epochs ++ epoch ∷ []
 
--- with that of a submission which waits to be categorised
+-- with that of a submission whose organisation is kept
 abbrev pub with_mail : List ℕ → Mail → List ℕ
 with_mail epochs mail = if is_some mail.org then with_epoch epochs mail.epoch else epochs
 
@@ -138,7 +161,8 @@ with_own epochs (Some mail) = with_epoch epochs mail.epoch
 abbrev pub with_item : List Mail → List ℕ → QueuedItem → List ℕ
 with_item live epochs item = with_own epochs (slice_get live (item.name.submission - 1))
 
--- the epochs that are live: the newest, and those of the submissions that wait to be categorised or have an item waiting
+-- the epochs that are live: the newest, and those of the submissions with a release that waits to be categorised, with an
+-- approval that pends or with an item that waits
 abbrev pub live_epochs : Standing → List ℕ
 live_epochs s = fold (with_item s.live) (fold with_mail (s.epoch ∷ []) s.live) s.waiting
 
@@ -163,46 +187,55 @@ is_lawful setup s (entries.Organised directory rules) = is_lawful_org setup s (r
 is_lawful setup s (entries.Accepted moment submission) =
     is_moment s moment && (not (is_some (place_of_same submission s.live)) && has_room s submission)
 is_lawful setup s (entries.Categorised number release plan) =
-    (release == 0)
-    && (nat_le 1 number && (is_uncategorised (slice_get s.live (number - 1)) && is_release number release plan))
+    is_uncategorised (mail_of s number) release && is_release number release plan
+is_lawful setup s (entries.Decided name by verdict moment) =
+    is_moment s moment && is_taken (decision_of s name by verdict moment)
 is_lawful setup s (entries.Moment moment) = is_moment s moment
 is_lawful setup s (entries.Delivered name) = list_any (is_named name) s.waiting
+
+-- An approval pends.
+abbrev pub any_pends : Standing → Bool
+any_pends s = list_any mail_pends s.live
 
 -- the number of the submission at a place
 abbrev pub number_at : Option ℕ → Option ℕ
 number_at None = None
 number_at (Some place) = Some (place + 1)
 
--- the input of the first release of a submission of this number, which was accepted at this moment in this epoch
-abbrev pub first_input : ℕ → ℕ → ℕ → Submitted → Input
-first_input number epoch moment submission = record {
-  number = number;
-  release = 0;
-  epoch = epoch;
-  accepted_at = moment;
-  made = moment;
-  before = None;
-  opened = [];
-  submission = submission;
-}
+abbrev pub task_name : Input → TaskName
+task_name input = record { submission = input.number; release = input.release }
 
-abbrev pub input_of : ℕ → Mail → Input
-input_of number mail = first_input number mail.epoch mail.accepted_at mail.submission
+abbrev pub task_or : ℕ → Option ℕ → Option TaskName → Option TaskName
+task_or number None later = later
+task_or number (Some release) later = Some (record { submission = number; release = release })
 
--- what makes the first release of a submission: its input, and the organisation that is to plan it
-pub record IsTask (number : ℕ) (mail : Mail) (made_from : Input) (texts : Texts) : Type 0 where
-  pub input : made_from ≡ input_of number mail
-  pub org : mail.org ≡ Some texts
+abbrev pub own_task : ℕ → ℕ → ℕ → Mail → Option ℕ
+own_task residue workers number mail = if (number % workers) == residue then first_waiting mail else None
 
--- The number of the first submission that waits to be categorised, of those whose number leaves this residue. The first
--- of these submissions has this number.
-abbrev pub first_task : ℕ → ℕ → ℕ → List Mail → Option ℕ
+-- The first release that waits to be categorised, by submission and release, of the submissions whose number leaves this
+-- residue. The first of these submissions has this number.
+abbrev pub first_task : ℕ → ℕ → ℕ → List Mail → Option TaskName
 first_task residue workers number [] = None
 first_task residue workers number (mail ∷ live) =
-    if is_some mail.org && ((number % workers) == residue) then Some number else first_task residue workers (number + 1) live
+    task_or number (own_task residue workers number mail) (first_task residue workers (number + 1) live)
+
+-- the releases of a submission that wait to be categorised, from this one on
+abbrev pub waiting_from : ℕ → ℕ → List Stage → List TaskName
+waiting_from number release [] = []
+waiting_from number release (stage ∷ stages) =
+    if stage_waits stage then (record { submission = number; release = release }) ∷ waiting_from number (release + 1) stages
+    else waiting_from number (release + 1) stages
+
+abbrev pub tasks_from : ℕ → List Mail → List TaskName
+tasks_from number [] = []
+tasks_from number (mail ∷ live) = waiting_from number 0 mail.stages ++ tasks_from (number + 1) live
+
+-- the releases that wait to be categorised, by submission and release
+abbrev pub tasks_of : Standing → List TaskName
+tasks_of s = tasks_from 1 s.live
 
 -- An entry is applied where it can stand behind the history. Otherwise, and where memory runs out, the state stays.
 abbrev pub Applies : Setup → Standing → Entry → Result (Unit {0}) StepFault → Standing → Type 0
-Applies setup s entry (Ok applied) s' = (is_lawful setup s entry ≡ true) × (s' ≡ state_after s entry)
+Applies setup s entry (Ok applied) s' = (is_lawful setup s entry ≡ true) × (s' ≡ state_after setup s entry)
 Applies setup s entry (Err faults.NotLawful) s' = (is_lawful setup s entry ≡ false) × (s' ≡ s)
 Applies setup s entry (Err faults.NoMemory) s' = s' ≡ s

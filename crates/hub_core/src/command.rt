@@ -1,16 +1,35 @@
 // What the hub is asked, and what it answers.
 use crate::part::Part;
-use mail_names::{Bytes, ItemName};
+use mail_names::{ApprovalName, Bytes, ItemName, Key};
 use mail_plan::{OrgFault, Outcome, Planner, Submission};
+use moderation::{Decision, Verdict};
 
 /// What is asked. Clocks are seconds since 1970-01-01T00:00:00Z.
 #[derive(Drop)]
 pub enum Command<T: Planner> {
-    Organise { directory: Bytes, rules: Bytes },
-    Submit { submission: Submission, clock: u64 },
-    Commit { outcome: Outcome<T> },
-    Moment { clock: u64 },
-    Delivered { name: ItemName },
+    Organise {
+        directory: Bytes,
+        rules: Bytes,
+    },
+    Submit {
+        submission: Submission,
+        clock: u64,
+    },
+    Commit {
+        outcome: Outcome<T>,
+    },
+    Decide {
+        approval: ApprovalName,
+        by: Key,
+        verdict: Verdict,
+        clock: u64,
+    },
+    Moment {
+        clock: u64,
+    },
+    Delivered {
+        name: ItemName,
+    },
 }
 
 /// What is answered.
@@ -32,6 +51,11 @@ pub enum Reply {
     Unknown,
     /// The outcome was made from another input: the first part that differs, and the place in it.
     NotItsInput { part: Part, at: u64 },
+    /// No release that is categorised asks for that approval, or the submission has as many releases as u32 numbers and the
+    /// decision would make one more.
+    NoSuchApproval,
+    /// What became of a decision.
+    Decided { decision: Decision },
     Done,
     /// No item of that name waits.
     NotNow,

@@ -1,17 +1,26 @@
 // What holds of what a history prescribes.
-ghost use Rattle.std.specs.Prelude.{◌≢◌, List, map};
+ghost use Rattle.std.specs.Prelude.{◌≡◌, ◌≢◌, ℕ, suc, true, List, length, map};
 ghost use Rattle.std.specs.List.{AllPairs};
 ghost use Rattle.mail_names.specs.declared.name.ItemName.{ItemName};
+ghost use Rattle.mail_plan.specs.Planning.{are_distinct, all_targets, first_input};
 ghost use Rattle.mail_plan.specs.declared.entry.Entry.{Entry};
 ghost use Rattle.hub_core.specs.declared.limits.Limits.{Limits};
 ghost use Rattle.hub_core.specs.declared.queue.QueuedItem.{QueuedItem};
 ghost use Rattle.hub_core.specs.Setup.{setup_of};
-ghost use Rattle.hub_core.specs.Items.{items};
+ghost use Rattle.hub_core.specs.Items.{Accepted, items};
 
 use mail_plan::Planner;
 
 /// No two items that entries prescribe have one name, be they lawful or not.
 pub fn names_are_unique<T: Planner>()
     ensures { (limits : Limits) (history : List Entry) →
-        AllPairs (λ (a b : ItemName). a ≢ b) (map (λ (item : QueuedItem). item.name) (items (setup_of T.reads T.release_of limits) history)) }
+        AllPairs (λ (a b : ItemName). a ≢ b) (map (λ (item : QueuedItem). item.name) (items (setup_of T.reads T.release_of T.inside limits) history)) }
 {}
+
+/// Over all releases of a submission, of whatever organisation and behind whatever gates, no two versions have one target.
+pub fn each_target_once<T: Planner>()
+    ensures { (limits : Limits) (number : ℕ) (a : Accepted) →
+        are_distinct (all_targets ((setup_of T.reads T.release_of T.inside limits).release_of a.org) (first_input number a.epoch a.moment a.submission) a.opened (suc (length a.opened))) ≡ true }
+{
+    mail_plan::laws::each_target_once::<T>();
+}

@@ -1,21 +1,26 @@
 //! The state machine of the hub: what it accepted, what waits, and what each entry of its history does.
 #![tactic(auto)]
 
+mod asking;
 mod command;
 mod digest;
+mod ending;
 pub mod laws;
 mod limits;
 mod live;
 mod part;
 mod queue;
 mod remembered;
+mod stage;
 mod state;
 #[cfg(test)]
 mod tests;
 
+pub use asking::Asking;
 pub use command::{Command, Reply, StepFault};
 pub use limits::Limits;
-pub use live::Live;
+pub use live::{Live, TaskName};
 pub use part::{Difference, Part};
 pub use queue::{QueuedItem, SharedBytes};
+pub use stage::Stage;
 pub use state::State;

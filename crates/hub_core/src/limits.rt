@@ -11,8 +11,8 @@ pub struct Limits {
     pub live: u64,
     /// Octets of their messages.
     pub bytes: u64,
-    /// Live organisations: the newest, and those by which a submission is planned that waits to be categorised or has an
-    /// item waiting.
+    /// Live organisations: the newest, and those by which a submission is planned that has a release waiting to be
+    /// categorised, an approval pending or an item waiting.
     pub epochs: u64,
 }
 

@@ -1,7 +1,7 @@
 // Where the input of an outcome differs from the one that is asked.
 ghost use Rattle.std.specs.Prelude.{◌≡◌, ◌+◌, ◌==◌, ℕ, [], None, bytes_eq, option_copied};
+ghost use Rattle.mail_plan.specs.Planning.{same_gate};
 ghost use Rattle.hub_core.specs.Setup.{texts_of};
-ghost use Rattle.hub_core.specs.Standing.{first_input};
 ghost use Rattle.hub_core.specs.Differing.{place_where, bytes_differ, keys_differ, gates_differ, numbers_differ, options_differ, origins_differ, or_behind, submissions_differ, orgs_differ, first_difference};
 
 use mail_names::{Gate, Items, Key};
@@ -63,23 +63,41 @@ fn numbers_differ(a: u64, b: u64) -> Option<usize>
     if a == b { None } else { Some(0) }
 }
 
-// Where the gates of an input differ from none.
-fn opened_differ(opened: &[Gate]) -> Option<usize>
-    ensures { result ≡ gates_differ [] opened.now }
+// Whether these are one gate.
+fn same_gate(a: &Gate, b: &Gate) -> bool
+    ensures { result ≡ same_gate a.now b.now }
 {
-    match opened {
-        [] => None,
-        [_, ..] => Some(0),
+    match (a, b) {
+        (Gate::Object { key }, Gate::Object { key: other }) => key.bytes() == other.bytes(),
+        (Gate::Object { .. }, Gate::Rule { .. }) => false,
+        (Gate::Rule { .. }, Gate::Object { .. }) => false,
+        (Gate::Rule { place }, Gate::Rule { place: other }) => place == other,
     }
 }
 
-// Where the gates that were opened before differ from those of a first release, which has no such list.
-fn before_differs(before: &Option<Items<Gate>>) -> Option<usize>
-    ensures { result ≡ options_differ gates_differ None before.now }
+fn gates_differ(a: &[Gate], b: &[Gate]) -> Option<usize>
+    ensures { result ≡ gates_differ a.now b.now }
 {
-    match before {
-        None => None,
-        Some(_) => Some(0),
+    let mut place = 0;
+    while place < a.len() && place < b.len() && same_gate(&a[place], &b[place]) {
+        place += 1;
+    }
+    if place < a.len() || place < b.len() {
+        Some(place)
+    } else {
+        None
+    }
+}
+
+// Where the gates that were opened before differ.
+fn before_differs(a: &Option<Items<Gate>>, b: &Option<Items<Gate>>) -> Option<usize>
+    ensures { result ≡ options_differ gates_differ a.now b.now }
+{
+    match (a, b) {
+        (None, None) => None,
+        (None, Some(_)) => Some(0),
+        (Some(_), None) => Some(0),
+        (Some(a), Some(b)) => gates_differ(a.as_slice(), b.as_slice()),
     }
 }
 
@@ -131,25 +149,20 @@ fn submissions_differ(a: &Submission, b: &Submission) -> Option<Difference>
     or_behind(Part::Origin, origin, reverse)
 }
 
-// Where the moments and the gates of an input differ from those of the first release of what was accepted at a moment, or
-// else what differs behind.
+// Where the moments and the gates of two inputs differ, or else what differs behind.
 fn times_differ(
-    accepted_at: u64,
-    input: &ReleaseInput,
+    a: &ReleaseInput,
+    b: &ReleaseInput,
     behind: Option<Difference>,
 ) -> Option<Difference>
-    ensures { result ≡ or_behind Part.Accepted (numbers_differ accepted_at input.now.accepted_at) (or_behind Part.Made (numbers_differ accepted_at input.now.made) (or_behind Part.Before (options_differ gates_differ None input.now.before) (or_behind Part.Opened (gates_differ [] input.now.opened) behind))) }
+    ensures { result ≡ or_behind Part.Accepted (numbers_differ a.now.accepted_at b.now.accepted_at) (or_behind Part.Made (numbers_differ a.now.made b.now.made) (or_behind Part.Before (options_differ gates_differ a.now.before b.now.before) (or_behind Part.Opened (gates_differ a.now.opened b.now.opened) behind))) }
 {
-    let opened = or_behind(Part::Opened, opened_differ(input.opened()), behind);
-    let before = or_behind(Part::Before, before_differs(input.before()), opened);
-    let made = or_behind(
-        Part::Made,
-        numbers_differ(accepted_at, input.made()),
-        before,
-    );
+    let opened = or_behind(Part::Opened, gates_differ(a.opened(), b.opened()), behind);
+    let before = or_behind(Part::Before, before_differs(a.before(), b.before()), opened);
+    let made = or_behind(Part::Made, numbers_differ(a.made(), b.made()), before);
     or_behind(
         Part::Accepted,
-        numbers_differ(accepted_at, input.accepted_at()),
+        numbers_differ(a.accepted_at(), b.accepted_at()),
         made,
     )
 }
@@ -171,25 +184,21 @@ fn orgs_differ<T: Planner>(
     )
 }
 
-/// Where an outcome's input, or its organisation, differs from that of the first release of a submission, which was
-/// accepted in this epoch at this moment.
+/// Where an outcome's input, or its organisation, differs from these.
 pub fn first_difference<T: Planner>(
-    submission: &Submission,
-    epoch: u32,
-    accepted_at: u64,
+    input: &ReleaseInput,
     org: &T::Org,
     outcome: &Outcome<T>,
 ) -> Option<Difference>
-    ensures { (number : ℕ) →
-        result ≡ first_difference (first_input number epoch accepted_at submission.now) (texts_of T.directory_of T.rules_of org.now) outcome.now.1 (texts_of T.directory_of T.rules_of outcome.now.0) }
+    ensures { result ≡ first_difference input.now (texts_of T.directory_of T.rules_of org.now) outcome.now.1 (texts_of T.directory_of T.rules_of outcome.now.0) }
 {
-    let input = outcome.input();
-    let submissions = submissions_differ(submission, input.submission());
-    let times = times_differ(accepted_at, input, submissions);
+    let made_from = outcome.input();
+    let submissions = submissions_differ(input.submission(), made_from.submission());
+    let times = times_differ(input, made_from, submissions);
     let orgs = orgs_differ::<T>(org, outcome.org(), times);
     or_behind(
         Part::Epoch,
-        numbers_differ(epoch as u64, input.epoch() as u64),
+        numbers_differ(input.epoch() as u64, made_from.epoch() as u64),
         orgs,
     )
 }

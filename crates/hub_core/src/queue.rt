@@ -2,10 +2,10 @@
 ghost use Rattle.std.specs.Prelude.{◌≡◌, ◌<◌, [], length, remove, IfOk, find, map, unwrap_or, slice_get, option_copied};
 ghost use Rattle.std.specs.List.{list_any, position_from};
 ghost use Rattle.hub_core.specs.declared.queue.QueuedItem.{QueuedItem};
-ghost use Rattle.hub_core.specs.Standing.{mark_number, same_name, is_named, without, queued, queued_all};
+ghost use Rattle.hub_core.specs.Standing.{mark_number, same_name, is_named, without, queued};
 
-use mail_names::{Bytes, ItemName, Key, Mark, NoMemory};
-use mail_plan::{Item, Release};
+use mail_names::{Bytes, ItemName, Items, Key, Mark, NoMemory};
+use mail_plan::Item;
 use std::alloc::Global;
 use std::collections::VecDeque;
 use std::marker::Model;
@@ -177,11 +177,14 @@ fn queued_each(
     Ok(made)
 }
 
-/// The items of a release, with their texts.
-pub fn queued_all(alloc: Global, release: Release) -> Result<VecDeque<QueuedItem>, NoMemory>
-    ensures { IfOk result (λ made. made.items ≡ queued_all release) }
+/// The items of a release of these texts, with their texts.
+pub fn queued_all(
+    alloc: Global,
+    texts: Items<Bytes>,
+    items: Items<Item>,
+) -> Result<VecDeque<QueuedItem>, NoMemory>
+    ensures { IfOk result (λ made. made.items ≡ map (queued texts) items) }
 {
-    let Release { texts, items, .. } = release;
     let texts = shared_texts(alloc, texts.into_vec())?;
     queued_each(alloc, &texts, items.into_vec())
 }

@@ -1,11 +1,15 @@
 // The submissions that the hub remembers, with an index of them.
-ghost use Rattle.std.specs.Prelude.{◌≡◌, ◌<◌, ◌^◌, ◌++◌, ◌∷◌, [], ℕ, List, false, Some, IfSome, OnOk, OnErr, slice_get};
-ghost use Rattle.hub_core.specs.Standing.{place_of_same, mark};
+ghost use Rattle.std.specs.Prelude.{◌≡◌, ◌<◌, ◌≤◌, ◌^◌, ◌++◌, ◌∷◌, [], ℕ, List, true, false, map, Some, IfSome, OnOk, OnErr, slice_get};
+ghost use Rattle.moderation.specs.declared.approval.Verdict.TheVariants as verdicts;
+ghost use Rattle.hub_core.specs.Approvals.{changed};
+ghost use Rattle.hub_core.specs.Mail.{is_uncategorised, with_asks, decision_in, is_taken, decided_mail, expired_mail};
+ghost use Rattle.hub_core.specs.Standing.{place_of_same};
 ghost use Rattle.hub_core.specs.Repeats.{digest_of, is_digest, found_or, place_at, repeats_at, IsIndex};
 
+use crate::asking::Asking;
 use crate::digest::digest_of;
-use crate::live::{Live, is_repeat, mark, place_of_same};
-use mail_names::NoMemory;
+use crate::live::{Live, is_repeat, place_of_same};
+use mail_names::{ApprovalName, Key, LAST_MOMENT, NoMemory};
 use mail_plan::{Planner, Submission};
 use std::alloc::Global;
 use std::collections::BTreeMap;
@@ -23,7 +27,7 @@ pub struct Remembered<T: Planner> {
 
 impl<T: Planner> Model for Remembered<T> {
     ghost use Rattle.std.specs.Prelude.{List};
-    ghost use Rattle.hub_core.specs.Standing.{Mail};
+    ghost use Rattle.hub_core.specs.Mail.{Mail};
     ghost use Rattle.hub_core.specs.Repeats.{IsIndex};
 
     ghost Value = { List Mail };
@@ -125,10 +129,52 @@ impl<T: Planner> Remembered<T> {
         Ok(())
     }
 
-    /// The submission at this place is categorised now.
-    pub fn mark(&mut self, place: usize)
-        ensures { self.new ≡ mark place self.old }
+    /// A release that waits of the submission at this place is categorised, and asks for these approvals.
+    pub fn categorise(&mut self, place: usize, release: u32, asks: Vec<Asking>)
+        requires { is_uncategorised (slice_get self.old place) release ≡ true }
+        ensures { self.new ≡ changed (with_asks release asks.items) place self.old }
     {
-        mark(&mut self.lives, place);
+        self.lives[place].categorise(release, asks);
+    }
+
+    /// A decision opens the gate of an approval of the submission at this place, and makes a release. After an error
+    /// nothing has changed.
+    pub fn approve(
+        &mut self,
+        alloc: Global,
+        place: usize,
+        name: &ApprovalName,
+        by: &Key,
+        moment: u64,
+    ) -> Result<(), NoMemory>
+        requires taken { is_taken (decision_in (slice_get self.old place) name.now by.now verdicts.Approve moment) ≡ true }
+        requires moment { moment ≤ LAST_MOMENT }
+        ensures ok { OnOk result (self.new ≡ changed (decided_mail name.now by.now verdicts.Approve moment) place self.old) }
+        ensures err { OnErr result (self.new ≡ self.old) }
+    {
+        self.lives[place].approve(alloc, name, by, moment)
+    }
+
+    /// A decision refuses an approval of the submission at this place.
+    pub fn refuse(&mut self, place: usize, name: &ApprovalName, by: &Key, moment: u64)
+        requires { is_taken (decision_in (slice_get self.old place) name.now by.now verdicts.Reject moment) ≡ true }
+        ensures { self.new ≡ changed (decided_mail name.now by.now verdicts.Reject moment) place self.old }
+    {
+        self.lives[place].refuse(name, by, moment);
+    }
+
+    /// Ends the approvals that run out at a moment.
+    pub fn expire(&mut self, moment: u64)
+        ensures { self.new ≡ map (expired_mail moment) self.old }
+    {
+        expire_lives(&mut self.lives, moment);
+    }
+}
+
+fn expire_lives<T: Planner>(lives: &mut Vec<Live<T>>, moment: u64)
+    ensures { lives.new.items ≡ map (expired_mail moment) lives.old.items }
+{
+    for live in lives.iter_mut() {
+        live.expire(moment);
     }
 }

@@ -4,11 +4,15 @@ ghost use Rattle.std.specs.Arc.{arc_value};
 ghost use Rattle.hub_core.specs.declared.queue.QueuedItem.{QueuedItem};
 ghost use Rattle.hub_core.specs.declared.limits.Limits.{Limits};
 ghost use Rattle.hub_core.specs.Setup.{setup_of, texts_of, first_org};
-ghost use Rattle.hub_core.specs.Standing.{Applies, IsTask, start, has_room, has_epoch, live_bytes, live_epochs, with_epoch, with_mail, with_item, same_texts, is_lawful, is_moment, is_uncategorised, number_at, now_of, is_named, place_of_same, first_task};
+ghost use Rattle.hub_core.specs.Mail.{IsTask, is_uncategorised};
+ghost use Rattle.hub_core.specs.Standing.{Applies, start, has_room, has_epoch, live_bytes, live_epochs, with_epoch, with_mail, with_item, same_texts, is_lawful, is_moment, mail_of, any_pends, number_at, now_of, is_named, place_of_same, task_name, first_task, tasks_of};
 ghost use Rattle.hub_core.specs.Replies.{reply_organise, reply_other, reply_submit, reply_commit, reply_delivered, reply_to};
 
+mod deciding;
+
+use crate::asking::asks_of;
 use crate::limits::Limits;
-use crate::live::{Live, first_task, is_uncategorised, judge_at};
+use crate::live::{Live, TaskName, first_task, is_uncategorised, made_at, uncategorised};
 use crate::queue::{QueuedItem, find, is_waiting, names_of, queued_all, take_out};
 use crate::remembered::Remembered;
 use crate::{Command, Reply, StepFault};
@@ -60,7 +64,7 @@ fn first_org<T: Planner>(alloc: Global) -> Result<T::Org, NoMemory>
 impl<T: Planner> State<T> {
     /// The state of the empty history under these limits.
     pub fn start(alloc: Global, limits: Limits) -> Result<State<T>, NoMemory>
-        ensures { IfOk result (λ state. state ≡ start (setup_of T.reads T.release_of limits)) }
+        ensures { IfOk result (λ state. state ≡ start (setup_of T.reads T.release_of T.inside limits)) }
     {
         let newest = Arc::new(alloc, first_org::<T>(alloc)?)?;
         Ok(State {
@@ -160,25 +164,50 @@ impl<T: Planner> State<T> {
     /// The item of this name, if it waits.
     pub fn item(&self, name: &ItemName) -> Option<&QueuedItem>
         ensures value { option_copied result ≡ find (is_named name.now) self.now.waiting }
-        ensures waits { IsSome result → is_lawful (setup_of T.reads T.release_of self.now.limits) self.now (Entry.Delivered name.now) ≡ true }
+        ensures waits { IsSome result → is_lawful (setup_of T.reads T.release_of T.inside self.now.limits) self.now (Entry.Delivered name.now) ≡ true }
     {
         find(&self.waiting, name)
     }
 
-    /// The task of the first release of the submission at this place (its number less 1), if it waits to be categorised.
-    pub fn task_at(&self, alloc: Global, place: usize) -> Result<Option<Task<T>>, NoMemory>
-        requires { place + 1 < 2 ^ 64 }
-        ensures waits { IfOk result (λ task. is_some task ≡ is_uncategorised (slice_get self.now.live place)) }
-        ensures made { IfOk result (λ task. IfSome task (λ t. IfSome (slice_get self.now.live place) (λ mail. IsTask (place + 1) mail t.input (texts_of T.directory_of T.rules_of (arc_value t.org))))) }
+    /// Whether an approval pends.
+    pub fn pends(&self) -> bool
+        ensures { result ≡ any_pends self.now }
     {
-        match self.live.as_slice().get(place) {
+        self.live.as_slice().iter().any(|live| live.pends())
+    }
+
+    /// The task of making a release, if the submission of this number has it and it waits to be categorised.
+    pub fn task_of(&self, alloc: Global, name: &TaskName) -> Result<Option<Task<T>>, NoMemory>
+        ensures waits { IfOk result (λ task. is_some task ≡ is_uncategorised (mail_of self.now name.now.submission) name.now.release) }
+        ensures release { IfOk result (λ task. IfSome task (λ t. t.input.release ≡ name.now.release)) }
+        ensures made { IfOk result (λ task. IfSome task (λ t. IfSome (mail_of self.now name.now.submission) (λ mail. IsTask name.now.submission mail t.input (texts_of T.directory_of T.rules_of (arc_value t.org))))) }
+    {
+        if name.submission == 0 {
+            return Ok(None);
+        }
+        match self.live.as_slice().get((name.submission - 1) as usize) {
             None => Ok(None),
-            Some(live) => live.task(alloc, place as u64 + 1),
+            Some(live) => live.task(alloc, name.submission, name.release),
         }
     }
 
-    /// The task of the first submission that waits to be categorised, of those whose number leaves this residue. None where
-    /// there is none.
+    /// The releases that wait to be categorised, by submission and release.
+    pub fn uncategorised(&self, alloc: Global) -> Result<Vec<TaskName>, NoMemory>
+        ensures { IfOk result (λ names. names.items ≡ tasks_of self.now) }
+    {
+        uncategorised(alloc, self.live.as_slice())
+    }
+
+    /// The name of the first release, by submission and release, that waits to be categorised, of the submissions whose number
+    /// leaves this residue. None where there is none.
+    pub fn first_task(&self, residue: u32, workers: u32) -> Option<TaskName>
+        requires { residue < workers }
+        ensures { result ≡ first_task residue workers 1 self.now.live }
+    {
+        first_task(self.live.as_slice(), residue, workers)
+    }
+
+    /// The task of that release.
     pub fn task(
         &self,
         alloc: Global,
@@ -186,25 +215,31 @@ impl<T: Planner> State<T> {
         workers: u32,
     ) -> Result<Option<Task<T>>, NoMemory>
         requires { residue < workers }
-        ensures first { IfOk result (λ task. option_map (λ (t : _). t.input.number) task ≡ first_task residue workers 1 self.now.live) }
-        ensures made { IfOk result (λ task. IfSome task (λ t. IfSome (slice_get self.now.live (t.input.number - 1)) (λ mail. IsTask t.input.number mail t.input (texts_of T.directory_of T.rules_of (arc_value t.org))))) }
+        ensures first { IfOk result (λ task. option_map (λ (t : _). task_name t.input) task ≡ first_task residue workers 1 self.now.live) }
+        ensures made { IfOk result (λ task. IfSome task (λ t. IfSome (mail_of self.now t.input.number) (λ mail. IsTask t.input.number mail t.input (texts_of T.directory_of T.rules_of (arc_value t.org))))) }
     {
-        match first_task(self.live.as_slice(), residue, workers) {
+        match self.first_task(residue, workers) {
             None => Ok(None),
-            Some(place) => self.task_at(alloc, place),
+            Some(name) => self.task_of(alloc, &name),
         }
     }
 
     /// What is answered to a command.
     pub fn judge(&self, alloc: Global, command: &Command<T>) -> Result<Reply, NoMemory>
-        ensures { IfOk result (λ reply. reply ≡ reply_to (texts_of T.directory_of T.rules_of) (setup_of T.reads T.release_of self.now.limits) self.now command.now) }
+        ensures { IfOk result (λ reply. reply ≡ reply_to (texts_of T.directory_of T.rules_of) (setup_of T.reads T.release_of T.inside self.now.limits) self.now command.now) }
     {
         match command {
             Command::Organise { directory, rules } => {
                 self.judge_organise(alloc, directory.as_slice(), rules.as_slice())
             }
             Command::Submit { submission, .. } => Ok(self.judge_submit(submission)),
-            Command::Commit { outcome } => Ok(self.judge_commit(outcome)),
+            Command::Commit { outcome } => self.judge_commit(alloc, outcome),
+            Command::Decide {
+                approval,
+                by,
+                verdict,
+                clock,
+            } => Ok(self.judge_decide(approval, by, *verdict, *clock)),
             Command::Moment { .. } => Ok(Reply::Done),
             Command::Delivered { name } => Ok(self.judge_delivered(name)),
         }
@@ -217,7 +252,7 @@ impl<T: Planner> State<T> {
         directory: &[u8],
         rules: &[u8],
     ) -> Result<Reply, NoMemory>
-        ensures { IfOk result (λ reply. reply ≡ reply_organise (setup_of T.reads T.release_of self.now.limits) self.now (record { directory = directory.now; rules = rules.now })) }
+        ensures { IfOk result (λ reply. reply ≡ reply_organise (setup_of T.reads T.release_of T.inside self.now.limits) self.now (record { directory = directory.now; rules = rules.now })) }
     {
         match T::read_org(alloc, directory, rules) {
             Err(OrgFault::NoMemory) => Err(NoMemory),
@@ -307,14 +342,17 @@ impl<T: Planner> State<T> {
 
     /// What is answered to an outcome: it is taken where it was made from the input of a release that waits to be
     /// categorised, and by its organisation.
-    pub fn judge_commit(&self, outcome: &Outcome<T>) -> Reply
-        ensures { result ≡ reply_commit self.now outcome.now.1 (texts_of T.directory_of T.rules_of outcome.now.0) }
+    pub fn judge_commit(&self, alloc: Global, outcome: &Outcome<T>) -> Result<Reply, NoMemory>
+        ensures { IfOk result (λ reply. reply ≡ reply_commit self.now outcome.now.1 (texts_of T.directory_of T.rules_of outcome.now.0)) }
     {
         let number = outcome.input().number();
-        if outcome.input().release() != 0 || number == 0 {
-            return Reply::Unknown;
+        if number == 0 {
+            return Ok(Reply::Unknown);
         }
-        judge_at(self.live.as_slice(), (number - 1) as usize, outcome)
+        match self.live.as_slice().get((number - 1) as usize) {
+            None => Ok(Reply::Unknown),
+            Some(live) => live.judge(alloc, number, outcome),
+        }
     }
 
     /// What is answered to the delivery of an item.
@@ -332,7 +370,7 @@ impl<T: Planner> State<T> {
     ///
     /// After a refusal the state is as it was.
     pub fn apply(&mut self, alloc: Global, entry: Entry) -> Result<(), StepFault>
-        ensures { Applies (setup_of T.reads T.release_of self.old.limits) self.old entry result self.new }
+        ensures { Applies (setup_of T.reads T.release_of T.inside self.old.limits) self.old entry result self.new }
     {
         match entry {
             Entry::Organised { directory, rules } => {
@@ -344,14 +382,20 @@ impl<T: Planner> State<T> {
                 release,
                 plan,
             } => self.categorise(alloc, number, release, plan),
-            Entry::Moment { moment } => self.turn(moment),
+            Entry::Decided {
+                approval,
+                by,
+                verdict,
+                moment,
+            } => self.decide(alloc, &approval, &by, verdict, moment),
+            Entry::Moment { moment } => self.turn(alloc, moment),
             Entry::Delivered { name } => self.deliver(&name),
         }
     }
 
     // An organisation comes into force, if these are the texts of one.
     fn organise(&mut self, alloc: Global, directory: &[u8], rules: &[u8]) -> Result<(), StepFault>
-        ensures { Applies (setup_of T.reads T.release_of self.old.limits) self.old (Entry.Organised directory.now rules.now) result self.new }
+        ensures { Applies (setup_of T.reads T.release_of T.inside self.old.limits) self.old (Entry.Organised directory.now rules.now) result self.new }
     {
         match T::read_org(alloc, directory, rules) {
             Ok(org) => self.change(alloc, org),
@@ -363,7 +407,7 @@ impl<T: Planner> State<T> {
 
     // This organisation comes into force, if it is another one and there is room for it.
     fn change(&mut self, alloc: Global, org: T::Org) -> Result<(), StepFault>
-        ensures { (directory rules : List ℕ) → T.reads directory rules ≡ Ok org → Applies (setup_of T.reads T.release_of self.old.limits) self.old (Entry.Organised directory rules) result self.new }
+        ensures { (directory rules : List ℕ) → T.reads directory rules ≡ Ok org → Applies (setup_of T.reads T.release_of T.inside self.old.limits) self.old (Entry.Organised directory rules) result self.new }
     {
         let (directory, rules) = T::texts(&org);
         if self.is_newest(directory, rules) {
@@ -398,7 +442,7 @@ impl<T: Planner> State<T> {
         moment: u64,
         submission: Submission,
     ) -> Result<(), StepFault>
-        ensures { Applies (setup_of T.reads T.release_of self.old.limits) self.old (Entry.Accepted moment submission) result self.new }
+        ensures { Applies (setup_of T.reads T.release_of T.inside self.old.limits) self.old (Entry.Accepted moment submission) result self.new }
     {
         if !self.is_moment(moment)
             || self.live.place_of_same(&submission).is_some()
@@ -425,37 +469,34 @@ impl<T: Planner> State<T> {
         release: u32,
         plan: Release,
     ) -> Result<(), StepFault>
-        ensures { Applies (setup_of T.reads T.release_of self.old.limits) self.old (Entry.Categorised number release plan) result self.new }
+        ensures { Applies (setup_of T.reads T.release_of T.inside self.old.limits) self.old (Entry.Categorised number release plan) result self.new }
     {
-        if release != 0
-            || number == 0
-            || !is_uncategorised(self.live.as_slice(), (number - 1) as usize)
+        if number == 0
+            || !is_uncategorised(self.live.as_slice(), (number - 1) as usize, release)
             || !plan.is_release(number, release)
         {
             return Err(StepFault::NotLawful);
         }
-        let mut items = queued_all(alloc, plan).map_err(|_| StepFault::NoMemory)?;
+        let place = (number - 1) as usize;
+        let made = made_at(self.live.as_slice(), place, release);
+        let Release {
+            texts,
+            items,
+            holds,
+            ends: _,
+        } = plan;
+        let asks = asks_of(alloc, holds.into_vec(), made).map_err(|_| StepFault::NoMemory)?;
+        let mut items = queued_all(alloc, texts, items).map_err(|_| StepFault::NoMemory)?;
         self.waiting
             .append(&mut items)
             .map_err(|_| StepFault::NoMemory)?;
-        self.live.mark((number - 1) as usize);
-        Ok(())
-    }
-
-    // A turn began.
-    fn turn(&mut self, moment: u64) -> Result<(), StepFault>
-        ensures { Applies (setup_of T.reads T.release_of self.old.limits) self.old (Entry.Moment moment) result self.new }
-    {
-        if !self.is_moment(moment) {
-            return Err(StepFault::NotLawful);
-        }
-        self.moment = moment;
+        self.live.categorise(place, release, asks);
         Ok(())
     }
 
     // An item is in its folder.
     fn deliver(&mut self, name: &ItemName) -> Result<(), StepFault>
-        ensures { Applies (setup_of T.reads T.release_of self.old.limits) self.old (Entry.Delivered name.now) result self.new }
+        ensures { Applies (setup_of T.reads T.release_of T.inside self.old.limits) self.old (Entry.Delivered name.now) result self.new }
     {
         if !is_waiting(&self.waiting, name) {
             return Err(StepFault::NotLawful);
@@ -475,12 +516,12 @@ fn add_epoch(epochs: &mut Vec<u32>, epoch: u32) -> Result<(), NoMemory>
     Ok(())
 }
 
-// Adds the epochs of the submissions that wait to be categorised.
+// Adds the epochs of the submissions that keep their organisation.
 fn add_waiting<T: Planner>(epochs: &mut Vec<u32>, lives: &[Live<T>]) -> Result<(), NoMemory>
     ensures { OnOk result (epochs.new.items ≡ fold with_mail epochs.old.items lives.now) }
 {
     for live in lives {
-        if live.is_waiting() {
+        if live.is_open() {
             add_epoch(epochs, live.epoch())?;
         }
     }

@@ -1,6 +1,8 @@
 // Repeats, organisations and outcomes, over a planner that takes any texts and sends nothing.
 ghost use Rattle.std.specs.Prelude.{◌<◌};
 
+mod deciding;
+
 use crate::live::place_of_same;
 use crate::{Command, Limits, Part, Reply, State, StepFault};
 use journal_report::Why;
@@ -221,7 +223,15 @@ fn organisations_are_counted(rt: HostRuntime) -> Result<(), Fail> {
     Ok(())
 }
 
-/// The outcome of a first release by these rules.
+/// An organisation of this directory.
+fn without_rules(alloc: Global, directory: &[u8]) -> Result<AnyOrg, Fail> {
+    Ok(AnyOrg {
+        directory: Bytes::of(alloc, directory)?,
+        rules: Bytes::new(alloc),
+    })
+}
+
+/// The outcome of a first release by the organisation of this directory.
 fn outcome(
     alloc: Global,
     number: u64,
@@ -230,10 +240,7 @@ fn outcome(
     recipients: &str,
 ) -> Result<Outcome<Silent>, Fail> {
     let submission = submission(alloc, "", "ann@a", recipients, HI)?;
-    let org = AnyOrg {
-        directory: Bytes::of(alloc, directory)?,
-        rules: Bytes::new(alloc),
-    };
+    let org = without_rules(alloc, directory)?;
     let task = Task {
         org: Arc::new(alloc, org)?,
         input: ReleaseInput::first(alloc, number, epoch, 7, Arc::new(alloc, submission)?),
@@ -287,7 +294,7 @@ fn an_outcome_is_compared(rt: HostRuntime) -> Result<(), Fail> {
         ),
     ] {
         let outcome = outcome(alloc, number, epoch, directory, recipients)?;
-        assert_eq!(rt; state.judge_commit(&outcome), wanted);
+        assert_eq!(rt; state.judge_commit(alloc, &outcome)?, wanted);
     }
     Ok(())
 }

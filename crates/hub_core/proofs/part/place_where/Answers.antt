@@ -1,4 +1,4 @@
-use Rattle.std.proofs.Common.{◌≡◌, ◌<◌, ◌≤◌, ℕ, length, get_or, Some, ap, sym, ◌∙◌, inl, inr, arith}
+use Rattle.std.proofs.Common.{get_or, ap, sym, ◌∙◌, inl, inr, arith}
 use Rattle.hub_core.proofs.Comparing.{moved_by, moved_zero, differ_here, first_ends, second_ends}
 use Rattle.hub_core.proofs.part.place_where.Goals as goal
 use Rattle.hub_core.proofs.part.place_where.Goals.{then-loop-place-test+then-place-b+else-eq, then-loop-place-test+else-place-b, else-loop-place-test}

@@ -1,4 +1,4 @@
-use Rattle.std.proofs.Common.{◌≡◌, ◌+◌, ◌-◌, ◌≤◌, length, drop}
+use Rattle.std.proofs.Common.{◌≡◌, ◌-◌, ◌≤◌, length, drop}
 use Rattle.hub_core.specs.Differing.{place_where}
 use Rattle.hub_core.proofs.Comparing.{moved_by}
 use Rattle.hub_core.proofs.part.place_where.Given as goal

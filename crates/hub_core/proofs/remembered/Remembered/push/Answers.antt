@@ -1,5 +1,5 @@
-use Rattle.std.proofs.Common.{ℕ, List, false, Option, ◌∙◌, ap, sym, subst}
-use Rattle.hub_core.specs.Standing.{Mail}
+use Rattle.std.proofs.Common.{ℕ, List, Option, ◌∙◌, ap, sym, subst}
+use Rattle.hub_core.specs.Mail.{Mail}
 use Rattle.hub_core.specs.Repeats.{IsIndex, digest_of, is_digest, found_or, place_at}
 use Rattle.hub_core.proofs.Repeating.{index-pushed}
 use Rattle.hub_core.proofs.remembered.Remembered.push.Goals as goal

@@ -1,13 +1,19 @@
-use Rattle.std.proofs.Common.{rules, ◌≡◌, ◌-◌, ap, ◌∙◌}
-use Rattle.std.specs.Prelude.{slice_get}
+use Rattle.std.proofs.Common.{◌≡◌, ap, ◌∙◌, IfOk, refl, subst}
+use Rattle.std.proofs.lemmas.Option.{slice_get_read}
+use Rattle.mail_plan.specs.Planning.{Input}
+use Rattle.hub_core.specs.declared.command.Reply.{Reply}
 use Rattle.hub_core.specs.Setup.{texts_of}
-use Rattle.hub_core.specs.Replies.{reply_mail}
-use Rattle.hub_core.proofs.Judging.{commit_judged}
+use Rattle.hub_core.specs.Standing.{Standing}
+use Rattle.hub_core.proofs.Judging.{commit-judged}
 use Rattle.hub_core.proofs.state.State.judge_commit.Goals as goal
 
-pub returns : goal.returns
-returns g c =
-    let input = c.args.outcome.now.1 in
+pub returns-in-Some : goal.returns-in-Some
+returns-in-Some g c =
     let org = texts_of g.T.Planner.directory_of g.T.Planner.rules_of c.args.outcome.now.0 in
-    let is : c.judge_at.result ≡ reply_mail input.number (slice_get c.args.self.now.live (input.number - 1)) input org = search rules in
-    commit_judged c.args.self.now input org c.judge_at.result (search rules) (search rules) is
+    let there = c.in-Some.ensures.lookup in
+    subst (λ (wanted : Reply). IfOk c.judge.result (λ (reply : Reply). reply ≡ wanted))
+    (commit-judged c.args.self.now c.args.outcome.now.1 org c.in-Some.live.now c.number-number.result c.as_slice.result.now c.if-number-eq0.false
+    (c.number-number.ensures ∙ ap (λ (i : Input). i.number) c.input.ensures)
+    (c.as_slice.ensures ∙ ap (λ (s : Standing). s.live) c.self.view_is)
+    (slice_get_read _ _ _ c.in-Some.live.now refl there.3.0 there.1))
+    c.judge.ensures
