@@ -32,6 +32,7 @@ delivered_push (entries.Delivered other ∷ h) e name (inr d) = elim (delivered_
 delivered_push (entries.Organised directory rules ∷ h) e name d = delivered_push h e name d
 delivered_push (entries.Accepted m s ∷ h) e name d = delivered_push h e name d
 delivered_push (entries.Categorised n r p ∷ h) e name d = delivered_push h e name d
+delivered_push (entries.Decided approval by verdict m ∷ h) e name d = delivered_push h e name d
 delivered_push (entries.Moment m ∷ h) e name d = delivered_push h e name d
 
 delivered_one : (setup : Setup) (h : List Entry) (e : Entry) (name : ItemName) (shelf : List Stored) → IsTrueOf setup h e shelf → IsDelivered name (e ∷ []) → IsShelved setup h name shelf
@@ -40,6 +41,7 @@ delivered_one setup h (entries.Delivered other) name shelf told (inr none) = abs
 delivered_one setup h (entries.Organised directory rules) name shelf told d = absurd d
 delivered_one setup h (entries.Accepted m s) name shelf told d = absurd d
 delivered_one setup h (entries.Categorised n r p) name shelf told d = absurd d
+delivered_one setup h (entries.Decided approval by verdict m) name shelf told d = absurd d
 delivered_one setup h (entries.Moment m) name shelf told d = absurd d
 
 delivered_all : (setup : Setup) (h : List Entry) (e : Entry) (name : ItemName) (shelf : List Stored) → ((name : ItemName) → IsDelivered name h → IsShelved setup h name shelf) → IsTrueOf setup h e shelf →

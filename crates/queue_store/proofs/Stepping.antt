@@ -1,7 +1,9 @@
 -- A ready hub over a call that adds an entry, or none.
 use Rattle.std.proofs.Common.{◌≡◌, ◌⊎◌, inl, inr, ℕ, ◌+◌, ◌-◌, ◌≤◌, Bool, true, false, List, [], ◌∷◌, Option, Some, None, refl, ap, ◌∙◌, sym, subst, arith, append-nil}
-use Rattle.std.specs.Prelude.{◌&&◌, slice_get, find, is_some, nat_le}
+use Rattle.std.specs.Prelude.{◌&&◌, find, fold}
+use Rattle.mail_names.specs.declared.name.ApprovalName.{ApprovalName}
 use Rattle.mail_names.specs.declared.name.ItemName.{ItemName}
+use Rattle.moderation.specs.declared.approval.Verdict.{Verdict}
 use Rattle.mail_plan.specs.Submission.{Submitted}
 use Rattle.mail_plan.specs.declared.entry.Entry.{Entry}
 use Rattle.mail_plan.specs.declared.entry.Entry.TheVariants as entries
@@ -19,10 +21,12 @@ use Rattle.queue_disk.specs.Log.{IsOpen, LogOf, log_of, FullAnswer}
 use Rattle.hub_core.specs.declared.queue.QueuedItem.{QueuedItem}
 use Rattle.hub_core.specs.Setup.{Texts, Setup}
 use Rattle.mail_plan.specs.Planning.{Input, is_release}
-use Rattle.hub_core.specs.Standing.{Mail, Standing, standing, now_of, has_room, place_of_same, is_named, is_lawful, is_uncategorised, input_of}
-use Rattle.hub_core.specs.Items.{items, accepted, Among}
+use Rattle.hub_core.specs.Mail.{Mail, waits, is_uncategorised, is_taken, input_of}
+use Rattle.hub_core.specs.Standing.{Standing, start, standing, state_after, now_of, has_room, place_of_same, is_named, is_lawful, is_moment, mail_of, decision_of}
+use Rattle.hub_core.specs.Items.{items, release_for, Among}
+use Rattle.hub_core.proofs.Agreeing.{mail-there, waiting_accepted}
 use Rattle.hub_core.proofs.Prescribed.{prescribed}
-use Rattle.hub_core.proofs.Sending.{waiting_accepted, found_named}
+use Rattle.hub_core.proofs.Sending.{found_named}
 use Rattle.queue_store.specs.Stands.{stored_of}
 use Rattle.queue_store.specs.declared.fault.HubFault.{HubFault}
 use Rattle.queue_store.specs.Faults.{fault_of, refused}
@@ -76,6 +80,7 @@ refuses setup s hub h es was submission clock (faults.LogFull octets) same decli
 refuses setup s hub h es was submission clock (faults.NotALog at) same declined = declined.why
 refuses setup s hub h es was submission clock (faults.Org fault) same declined = declined.why
 refuses setup s hub h es was submission clock (faults.EpochsFull live) same declined = declined.why
+refuses setup s hub h es was submission clock faults.NoSuchApproval same declined = declined.why
 
 -- what a new submission adds, where there is room for it
 pub new_entries : (s : Standing) (clock : ℕ) (submission : Submitted) → place_of_same submission s.live ≡ None → has_room s submission ≡ true →
@@ -102,6 +107,9 @@ disk≢org fault e = cc
 disk≢epochs : (live : ℕ) → faults.EpochsFull live ≡ faults.DiskFault → ⊥
 disk≢epochs live e = cc
 
+disk≢approval : faults.NoSuchApproval ≡ faults.DiskFault → ⊥
+disk≢approval e = cc
+
 -- what an office answers to a submission that the hub refused
 pub submits_err : (s s' : State) (hub hub' : Kept) (submission : Submitted) (clock : ℕ) (e : HubFault) →
     ((setup : Setup) (h : List Entry) → IsReady setup s hub h → (e ≡ faults.DiskFault) ⊎ Refuses setup s' hub' h hub.state submission clock e) → (e ≡ faults.DiskFault → Rose s.disk_faults s'.disk_faults) →
@@ -123,6 +131,8 @@ submits_err s s' hub hub' submission clock (faults.Org fault) declines cause = �
     elim (declines setup h ready) [ inl disk ↦ absurd (disk≢org fault disk) | inr never ↦ absurd never ]
 submits_err s s' hub hub' submission clock (faults.EpochsFull live) declines cause = λ setup h ready.
     elim (declines setup h ready) [ inl disk ↦ absurd (disk≢epochs live disk) | inr never ↦ absurd never ]
+submits_err s s' hub hub' submission clock faults.NoSuchApproval declines cause = λ setup h ready.
+    elim (declines setup h ready) [ inl disk ↦ absurd (disk≢approval disk) | inr never ↦ absurd never ]
 
 -- and to a question after the next number
 pub counts_err : (s s' : State) (hub hub' : Kept) (e : HubFault) → (hub.broken ≡ false → ⊥) → (e ≡ faults.DiskFault → Rose s.disk_faults s'.disk_faults) → Counts s hub (Err (refused e)) s' hub'
@@ -133,6 +143,7 @@ counts_err s s' hub hub' (faults.LogFull octets) never cause = λ setup h ready.
 counts_err s s' hub hub' (faults.NotALog at) never cause = λ setup h ready. never ready.whole
 counts_err s s' hub hub' (faults.Org fault) never cause = λ setup h ready. never ready.whole
 counts_err s s' hub hub' (faults.EpochsFull live) never cause = λ setup h ready. never ready.whole
+counts_err s s' hub hub' faults.NoSuchApproval never cause = λ setup h ready. never ready.whole
 
 -- a fault that is handed on
 pub handed : {T : Type 0} (P : HubFault → Type 0) (e : HubFault) (result : Result T HubFault) → IsErrAnd result (λ f. f ≡ e) → P e → IfErr result P
@@ -153,36 +164,26 @@ framed-leaves T h entry place most most' (logs.LogFull n) at is disk full =
     let above = full.1 in
     (full.0 ∙ ap (λ (m : ℕ). min (m + 1) (2 ^ 64 - 1)) at, omega (arith, above, at, is))
 
-one_less : (n : ℕ) → n + 1 - 1 ≡ n
-one_less n = omega arith
-
 both : (a b : Bool) → a ≡ true → b ≡ true → (a && b) ≡ true
 both a b p q = ap (λ x. x && b) p ∙ q
 
-placed_lawful : (setup : Setup) (s : Standing) (place : ℕ) (mail : Mail) (org : Texts) (plan : Release) → slice_get s.live place ≡ Some mail → mail.org ≡ Some org → is_release (place + 1) 0 plan ≡ true →
-    is_lawful setup s (entries.Categorised (place + 1) 0 plan) ≡ true
-placed_lawful setup s place mail org plan at waits form =
-    let some : nat_le 1 (place + 1) ≡ true = grind arith in
-    both _ _ some (both _ _ (ap (λ n. is_uncategorised (slice_get s.live n)) (one_less place) ∙ ap is_uncategorised at ∙ ap (λ (o : Option Texts). is_some o) waits) form)
+waiting_lawful : (setup : Setup) (s : Standing) (number release : ℕ) (mail : Mail) (plan : Release) → mail_of s number ≡ Some mail → waits mail release ≡ true → is_release number release plan ≡ true →
+    is_lawful setup s (entries.Categorised number release plan) ≡ true
+waiting_lawful setup s number release mail plan at wait form = both _ _ (ap (λ (m : Option Mail). is_uncategorised m release) at ∙ wait) form
 
-placed_follows : (setup : Setup) (h : List Entry) (shelf : List Stored) (place : ℕ) (mail : Mail) (org : Texts) (plan : Release) → slice_get (standing setup h).live place ≡ Some mail → mail.org ≡ Some org →
-    plan ≡ setup.release_of org (input_of (place + 1) mail) → is_release (place + 1) 0 plan ≡ true → Follows setup h (entries.Categorised (place + 1) 0 plan) shelf
-placed_follows setup h shelf place mail org plan at waits same form =
-    let (a, there, is) = waiting_accepted setup h place mail org at waits in (
-      (
-        placed_lawful setup (standing setup h) place mail org plan at waits form,
-        (a, (let some : 1 ≤ place + 1 = omega arith in some), ap (λ n. slice_get (accepted h) n) (one_less place) ∙ there, same ∙ is),
-      ),
-      tt,
-    )
-
--- the first release of a submission that waits can stand behind the history, and carries what the submission prescribes
+-- a release that waits can stand behind the history, and is the one that is prescribed
 pub waiting_follows : (setup : Setup) (s : State) (hub : Kept) (h : List Entry) (input : Input) (org : Texts) (plan : Release) → IsReady setup s hub h → IsWaiting hub.state input org →
-    plan ≡ setup.release_of org input → is_release input.number input.release plan ≡ true → Follows setup h (entries.Categorised input.number 0 plan) s.image.shelf
+    plan ≡ setup.release_of org input → is_release input.number input.release plan ≡ true → Follows setup h (entries.Categorised input.number input.release plan) s.image.shelf
 waiting_follows setup s hub h input org plan ready waiting same form =
     let w = subst (λ (st : Standing). IsWaiting st input org) ready.state waiting in
-    subst (λ (i : Input). plan ≡ setup.release_of org i → is_release i.number i.release plan ≡ true → Follows setup h (entries.Categorised i.number 0 plan) s.image.shelf) (sym w.task.input)
-    (λ p f. placed_follows setup h s.image.shelf w.place w.mail org plan w.at w.task.org p f) same form
+    let mail = w.mail in
+    let (some, there) = mail-there (standing setup h) input.number mail w.at in
+    let next : input.number - 1 + 1 ≡ input.number = omega (arith, some) in
+    let (a, kept, low, is) = waiting_accepted setup h ready.stands.history (input.number - 1) input.release mail org there w.task.org w.task.waits in
+    let made : plan ≡ release_for setup input.number a input.release =
+    same ∙ ap (λ (i : Input). setup.release_of org i) w.task.input ∙ ap (λ n. setup.release_of org (input_of n mail input.release)) (sym next) ∙ is
+    ∙ ap (λ n. release_for setup n a input.release) next in
+    ((waiting_lawful setup (standing setup h) input.number input.release mail plan w.at w.task.waits form, (a, some, kept, low, made)), tt)
 
 -- an item that is found waits, and is prescribed
 pub found_prescribed : (setup : Setup) (s : State) (hub : Kept) (h : List Entry) (name : ItemName) (item : QueuedItem) → IsReady setup s hub h → find (is_named name) hub.state.waiting ≡ Some item → Among item (items setup h) × (item.name ≡ name)
@@ -218,10 +219,36 @@ ready-put setup result s s' hub h item ready among stays puts = record {
   stands = stands-put-by setup result s.image s'.image h item ready.stands among puts.image.file puts.image.shelf;
 }
 
-moment_lawful : (setup : Setup) (s : Standing) (moment : ℕ) → s.moment ≤ moment → moment ≤ 253402300799 → is_lawful setup s (entries.Moment moment) ≡ true
-moment_lawful setup s moment later last = grind (arith, nat_tests)
+is_later : (s : Standing) (moment : ℕ) → s.moment ≤ moment → moment ≤ 253402300799 → is_moment s moment ≡ true
+is_later s moment later last = grind (arith, nat_tests)
 
 -- a turn's moment
 pub moment_follows : (setup : Setup) (s : State) (hub : Kept) (h : List Entry) (moment : ℕ) → IsReady setup s hub h → hub.state.moment ≤ moment → moment ≤ 253402300799 → Follows setup h (entries.Moment moment) s.image.shelf
 moment_follows setup s hub h moment ready later last =
-    ((moment_lawful setup (standing setup h) moment (subst (λ (st : Standing). st.moment ≤ moment) ready.state later) last, tt), tt)
+    ((is_later (standing setup h) moment (subst (λ (st : Standing). st.moment ≤ moment) ready.state later) last, tt), tt)
+
+-- a decision that is taken
+pub decided_follows : (setup : Setup) (s : State) (hub : Kept) (h : List Entry) (name : ApprovalName) (by : List ℕ) (verdict : Verdict) (moment : ℕ) → IsReady setup s hub h →
+    hub.state.moment ≤ moment → moment ≤ 253402300799 → is_taken (decision_of hub.state name by verdict moment) ≡ true → Follows setup h (entries.Decided name by verdict moment) s.image.shelf
+decided_follows setup s hub h name by verdict moment ready later last taken =
+    let lawful = both _ _ (is_later hub.state moment later last) taken in
+    ((ap (λ (st : Standing). is_lawful setup st (entries.Decided name by verdict moment)) (sym ready.state) ∙ lawful, tt), tt)
+
+limits-after : (setup : Setup) (s : Standing) (e : Entry) → (state_after setup s e).limits ≡ s.limits
+limits-after setup s (entries.Organised directory rules) = refl
+limits-after setup s (entries.Accepted moment submission) = refl
+limits-after setup s (entries.Categorised number release plan) = refl
+limits-after setup s (entries.Decided name by verdict moment) = refl
+limits-after setup s (entries.Moment moment) = refl
+limits-after setup s (entries.Delivered name) = refl
+
+limits-kept : (setup : Setup) (s : Standing) (h : List Entry) → (fold (state_after setup) s h).limits ≡ s.limits
+limits-kept setup s [] = refl
+limits-kept setup s (e ∷ h) = limits-kept setup (state_after setup s e) h ∙ limits-after setup s e
+
+-- a history leaves the limits that the hub is held to
+pub standing-limits : (setup : Setup) (h : List Entry) → (standing setup h).limits ≡ setup.limits
+standing-limits setup h = limits-kept setup (start setup) h
+
+pub ready-limits : (setup : Setup) (s : State) (hub : Kept) (h : List Entry) → IsReady setup s hub h → hub.state.limits ≡ setup.limits
+ready-limits setup s hub h ready = ap (λ (st : Standing). st.limits) ready.state ∙ standing-limits setup h

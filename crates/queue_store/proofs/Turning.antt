@@ -1,6 +1,6 @@
--- Runs of calls: categorising place by place, and trying item by item.
-use Rattle.std.proofs.Common.{◌≡◌, ℕ, suc, ◌+◌, ◌-◌, ◌<◌, ◌≤◌, cond, Bool, true, false, List, [], ◌∷◌, ◌++◌, length, get_or, drop, refl, ap, ◌∙◌, sym, subst, arith, append_assoc, append-nil}
-use Rattle.std.specs.Prelude.{fold, not}
+-- Runs of calls: categorising release by release, and trying item by item.
+use Rattle.std.proofs.Common.{◌≡◌, ℕ, ◌+◌, ◌<◌, ◌≤◌, cond, Bool, true, false, List, [], ◌∷◌, ◌++◌, length, get_or, drop, refl, ap, ◌∙◌, sym, subst, arith, append_assoc, append-nil}
+use Rattle.std.specs.Prelude.{◌||◌, fold, not}
 use Rattle.std.proofs.lemmas.List.{drop_more}
 use Rattle.std.proofs.lemmas.Grind.{fold-append}
 use Rattle.mail_names.specs.declared.name.ItemName.{ItemName}
@@ -14,15 +14,15 @@ use Rattle.queue_store.specs.declared.fault.HubFault.TheVariants as faults
 use Rattle.queue_store.specs.Room.{Fits, IsFull}
 use Rattle.queue_store.specs.Ready.{Kept, IsReady, Adds, Leaves, Stops}
 use Rattle.mail_plan.specs.declared.entry.Entry.TheVariants as entries
-use Rattle.std.proofs.lemmas.Bool.Decides.{nat_tests}
 use Rattle.std.specs.Prelude.{nat_lt}
-use Rattle.hub_core.specs.Standing.{now_of}
-use Rattle.queue_store.specs.Calls.{after_entries, entries_at, entries_all, entries_try, entries_tries, entries_turn, names_waiting, moment_entry, misses}
+use Rattle.hub_core.specs.declared.live.TaskName.{TaskName}
+use Rattle.hub_core.specs.Standing.{now_of, any_pends}
+use Rattle.queue_store.specs.Calls.{after_entries, entries_at, entries_all, entries_try, entries_tries, entries_trying, entries_turn, moment_entry, misses}
 
 -- the state goes on by what was added
-pub state-goes : (setup : Setup) (s s' : State) (hub hub' : Kept) (h es : List Entry) → IsReady setup s hub h → IsReady setup s' hub' (h ++ es) → hub'.state ≡ after_entries hub.state es
+pub state-goes : (setup : Setup) (s s' : State) (hub hub' : Kept) (h es : List Entry) → IsReady setup s hub h → IsReady setup s' hub' (h ++ es) → hub'.state ≡ after_entries setup hub.state es
 state-goes setup s s' hub hub' h es before after =
-    after.state ∙ fold-append state_after (start setup) h es ∙ ap (λ (st : Standing). fold state_after st es) (sym before.state)
+    after.state ∙ fold-append (state_after setup) (start setup) h es ∙ ap (λ (st : Standing). fold (state_after setup) st es) (sym before.state)
 
 fits-joined : (most : ℕ) (h xs ys : List Entry) → Fits most h xs → Fits most (h ++ xs) ys → Fits most h (xs ++ ys)
 fits-joined most h [] ys first second = subst (λ (g : List Entry). Fits most g ys) (append-nil h) second
@@ -48,6 +48,7 @@ leaves-more most h left rest (faults.LogFull octets) why = full-more most h left
 leaves-more most h left rest (faults.NotALog at) why = why
 leaves-more most h left rest (faults.Org fault) why = why
 leaves-more most h left rest (faults.EpochsFull live) why = why
+leaves-more most h left rest faults.NoSuchApproval why = why
 
 -- a run that stopped, where more was to come
 pub stops-more : (setup : Setup) (s : State) (hub : Kept) (h ys rest : List Entry) (e : HubFault) → Stops setup s hub h ys e → Stops setup s hub h (ys ++ rest) e
@@ -73,67 +74,63 @@ stops-joined setup s s' hub hub' h xs ys rest e first stops = record {
       (subst (λ (g : List Entry). Leaves setup.limits.log g stops.left e) (append_assoc h xs stops.added) stops.why);
 }
 
-pub all_step : (setup : Setup) (count place : ℕ) (s : Standing) → place < count →
-    entries_all setup (count - place) s place ≡ entries_at setup s place ++ entries_all setup (count - (place + 1)) (after_entries s (entries_at setup s place)) (place + 1)
-all_step setup count place s below =
-    let more : count - place ≡ suc (count - (place + 1)) = omega arith in
-    ap (λ n. entries_all setup n s place) more
+-- one release more was categorised
+pub all_more : (setup : Setup) (names : List TaskName) (i : ℕ) (d name : TaskName) (s s' : Standing) (done es whole : List Entry) → i < length names → name ≡ get_or names i d →
+    es ≡ entries_at setup s name → s' ≡ after_entries setup s es → done ++ entries_all setup s (drop i names) ≡ whole → (done ++ es) ++ entries_all setup s' (drop (i + 1) names) ≡ whole
+all_more setup names i d name s s' done es whole below at is state so_far =
+    let left : drop i names ≡ name ∷ drop (i + 1) names = drop_more names i d below ∙ ap (λ n. n ∷ drop (i + 1) names) (sym at) in
+    append_assoc done es (entries_all setup s' (drop (i + 1) names))
+    ∙ ap (λ st. done ++ (es ++ entries_all setup st (drop (i + 1) names))) state
+    ∙ ap (λ (xs : List Entry). done ++ (xs ++ entries_all setup (after_entries setup s xs) (drop (i + 1) names))) is
+    ∙ ap (λ ns. done ++ entries_all setup s ns) (sym left) ∙ so_far
 
--- one place more
-pub all_more : (setup : Setup) (count place : ℕ) (s s' : Standing) (done es whole : List Entry) → place < count → es ≡ entries_at setup s place → s' ≡ after_entries s es →
-    done ++ entries_all setup (count - place) s place ≡ whole → (done ++ es) ++ entries_all setup (count - (place + 1)) s' (place + 1) ≡ whole
-all_more setup count place s s' done es whole below is state so_far =
-    append_assoc done es (entries_all setup (count - (place + 1)) s' (place + 1))
-    ∙ ap (λ st. done ++ (es ++ entries_all setup (count - (place + 1)) st (place + 1))) state
-    ∙ ap (λ (xs : List Entry). done ++ (xs ++ entries_all setup (count - (place + 1)) (after_entries s xs) (place + 1))) is
-    ∙ ap (λ xs. done ++ xs) (sym (all_step setup count place s below)) ∙ so_far
-
--- stopped at a place
-pub all_stopped : (setup : Setup) (count place : ℕ) (s : Standing) (done es whole : List Entry) → place < count → es ≡ entries_at setup s place →
-    done ++ entries_all setup (count - place) s place ≡ whole → done ++ (es ++ entries_all setup (count - (place + 1)) (after_entries s es) (place + 1)) ≡ whole
-all_stopped setup count place s done es whole below is so_far =
-    ap (λ (xs : List Entry). done ++ (xs ++ entries_all setup (count - (place + 1)) (after_entries s xs) (place + 1))) is
-    ∙ ap (λ xs. done ++ xs) (sym (all_step setup count place s below)) ∙ so_far
+-- stopped at a release
+pub all_stopped : (setup : Setup) (names : List TaskName) (i : ℕ) (d name : TaskName) (s : Standing) (done es whole : List Entry) → i < length names → name ≡ get_or names i d →
+    es ≡ entries_at setup s name → done ++ entries_all setup s (drop i names) ≡ whole → done ++ (es ++ entries_all setup (after_entries setup s es) (drop (i + 1) names)) ≡ whole
+all_stopped setup names i d name s done es whole below at is so_far =
+    let left : drop i names ≡ name ∷ drop (i + 1) names = drop_more names i d below ∙ ap (λ n. n ∷ drop (i + 1) names) (sym at) in
+    ap (λ (xs : List Entry). done ++ (xs ++ entries_all setup (after_entries setup s xs) (drop (i + 1) names))) is
+    ∙ ap (λ ns. done ++ entries_all setup s ns) (sym left) ∙ so_far
 
 -- A front of the names was tried: what is left goes on from there.
-pub record Tried (s : Standing) (names : List ItemName) (puts : List Bool) (done : List Entry) (s' : Standing) (left : List ItemName) : Type 0 where
-  pub log : (more : List Bool) → entries_tries s names (puts ++ more) ≡ done ++ entries_tries s' left more
+pub record Tried (setup : Setup) (s : Standing) (names : List ItemName) (puts : List Bool) (done : List Entry) (s' : Standing) (left : List ItemName) : Type 0 where
+  pub log : (more : List Bool) → entries_tries setup s names (puts ++ more) ≡ done ++ entries_tries setup s' left more
 
-pub Tried-none : (s : Standing) (names : List ItemName) → Tried s names [] [] s names
-Tried-none s names = record { log = λ more. refl }
+pub Tried-none : (setup : Setup) (s : Standing) (names : List ItemName) → Tried setup s names [] [] s names
+Tried-none setup s names = record { log = λ more. refl }
 
-pub Tried-more : (s : Standing) (names : List ItemName) (puts : List Bool) (done : List Entry) (s' : Standing) (i : ℕ) (d name : ItemName) (put : Bool) (s'' : Standing) →
-    i < length names → name ≡ get_or names i d → Tried s names puts done s' (drop i names) → s'' ≡ after_entries s' (entries_try s' name put) →
-    Tried s names (puts ++ put ∷ []) (done ++ entries_try s' name put) s'' (drop (i + 1) names)
-Tried-more s names puts done s' i d name put s'' below is tried state =
+pub Tried-more : (setup : Setup) (s : Standing) (names : List ItemName) (puts : List Bool) (done : List Entry) (s' : Standing) (i : ℕ) (d name : ItemName) (put : Bool) (s'' : Standing) →
+    i < length names → name ≡ get_or names i d → Tried setup s names puts done s' (drop i names) → s'' ≡ after_entries setup s' (entries_try s' name put) →
+    Tried setup s names (puts ++ put ∷ []) (done ++ entries_try s' name put) s'' (drop (i + 1) names)
+Tried-more setup s names puts done s' i d name put s'' below is tried state =
     let es = entries_try s' name put in
     let left : drop i names ≡ name ∷ drop (i + 1) names = drop_more names i d below ∙ ap (λ n. n ∷ drop (i + 1) names) (sym is) in
     record {
       log = λ more.
-          ap (entries_tries s names) (append_assoc puts (put ∷ []) more) ∙ tried.log (put ∷ more)
-          ∙ ap (λ ns. done ++ entries_tries s' ns (put ∷ more)) left
-          ∙ ap (λ st. done ++ (es ++ entries_tries st (drop (i + 1) names) more)) (sym state)
-          ∙ sym (append_assoc done es (entries_tries s'' (drop (i + 1) names) more));
+          ap (entries_tries setup s names) (append_assoc puts (put ∷ []) more) ∙ tried.log (put ∷ more)
+          ∙ ap (λ ns. done ++ entries_tries setup s' ns (put ∷ more)) left
+          ∙ ap (λ st. done ++ (es ++ entries_tries setup st (drop (i + 1) names) more)) (sym state)
+          ∙ sym (append_assoc done es (entries_tries setup s'' (drop (i + 1) names) more));
     }
 
-pub Tried-all : (s : Standing) (names : List ItemName) (puts : List Bool) (done : List Entry) (s' : Standing) (left : List ItemName) →
-    left ≡ [] → Tried s names puts done s' left → done ≡ entries_tries s names puts
-Tried-all s names puts done s' left none tried =
-    sym (tried.log [] ∙ ap (λ ns. done ++ entries_tries s' ns []) none ∙ append-nil done) ∙ ap (entries_tries s names) (append-nil puts)
+pub Tried-all : (setup : Setup) (s : Standing) (names : List ItemName) (puts : List Bool) (done : List Entry) (s' : Standing) (left : List ItemName) →
+    left ≡ [] → Tried setup s names puts done s' left → done ≡ entries_tries setup s names puts
+Tried-all setup s names puts done s' left none tried =
+    sym (tried.log [] ∙ ap (λ ns. done ++ entries_tries setup s' ns []) none ∙ append-nil done) ∙ ap (entries_tries setup s names) (append-nil puts)
 
-tries-end : (s : Standing) (names : List ItemName) → entries_tries s names [] ≡ []
-tries-end s [] = refl
-tries-end s (name ∷ names) = refl
+tries-end : (setup : Setup) (s : Standing) (names : List ItemName) → entries_tries setup s names [] ≡ []
+tries-end setup s [] = refl
+tries-end setup s (name ∷ names) = refl
 
 -- stopped at a name, whose put would have been the last
-pub Tried-stopped : (s : Standing) (names : List ItemName) (puts : List Bool) (done : List Entry) (s' : Standing) (i : ℕ) (d name : ItemName) →
-    i < length names → name ≡ get_or names i d → Tried s names puts done s' (drop i names) →
-    done ++ (entries_try s' name true ++ []) ≡ entries_tries s names (puts ++ true ∷ [])
-Tried-stopped s names puts done s' i d name below is tried =
+pub Tried-stopped : (setup : Setup) (s : Standing) (names : List ItemName) (puts : List Bool) (done : List Entry) (s' : Standing) (i : ℕ) (d name : ItemName) →
+    i < length names → name ≡ get_or names i d → Tried setup s names puts done s' (drop i names) →
+    done ++ (entries_try s' name true ++ []) ≡ entries_tries setup s names (puts ++ true ∷ [])
+Tried-stopped setup s names puts done s' i d name below is tried =
     let es = entries_try s' name true in
     let left : drop i names ≡ name ∷ drop (i + 1) names = drop_more names i d below ∙ ap (λ n. n ∷ drop (i + 1) names) (sym is) in
-    ap (λ (xs : List Entry). done ++ (es ++ xs)) (sym (tries-end (after_entries s' es) (drop (i + 1) names)))
-    ∙ sym (tried.log (true ∷ []) ∙ ap (λ ns. done ++ entries_tries s' ns (true ∷ [])) left)
+    ap (λ (xs : List Entry). done ++ (es ++ xs)) (sym (tries-end setup (after_entries setup s' es) (drop (i + 1) names)))
+    ∙ sym (tried.log (true ∷ []) ∙ ap (λ ns. done ++ entries_tries setup s' ns (true ∷ [])) left)
 
 -- a put more: the count of faults rose where it failed
 pub misses-more : (puts : List Bool) (put : Bool) (before mid now : ℕ) → RoseBy (misses puts) before mid → mid ≤ now → (put ≡ false → Rose mid now) → RoseBy (misses (puts ++ put ∷ [])) before now
@@ -142,15 +139,14 @@ misses-more puts true before mid now so_far later rose =
 misses-more puts false before mid now so_far later rose =
     let more : misses (puts ++ false ∷ []) ≡ misses puts + 1 = fold-append (λ a x. a + cond (not x) 1 0) 0 puts (false ∷ []) in omega (arith, more, so_far, rose refl)
 
-some_wait : (n : ℕ) → 0 < n → nat_lt 0 n ≡ true
-some_wait n some = grind (arith, nat_tests)
+pub idle : (waits pend : Bool) → waits ≡ false → pend ≡ false → (waits || pend) ≡ false
+idle waits pend first second = ap (λ w. w || pend) first ∙ second
 
 -- a turn's first entry, and then its tries
-pub turn-entries : (s mid : Standing) (clock moment : ℕ) (names : List ItemName) (puts : List Bool) → 0 < length s.waiting → moment ≡ now_of s clock → names ≡ names_waiting s →
-    mid ≡ after_entries s (entries.Moment moment ∷ []) → (entries.Moment moment ∷ []) ++ entries_tries mid names puts ≡ entries_turn s clock puts
-turn-entries s mid clock moment names puts some at named state =
-    let all = moment_entry s clock ∷ entries_tries (state_after s (moment_entry s clock)) (names_waiting s) puts in
-    ap (λ st. entries.Moment moment ∷ entries_tries st names puts) state
-    ∙ ap (λ m. entries.Moment m ∷ entries_tries (state_after s (entries.Moment m)) names puts) at
-    ∙ ap (λ ns. moment_entry s clock ∷ entries_tries (state_after s (moment_entry s clock)) ns puts) named
-    ∙ sym (ap (λ t. cond t all []) (some_wait (length s.waiting) some))
+pub turn-entries : (setup : Setup) (s mid : Standing) (clock moment : ℕ) (puts : List Bool) → (nat_lt 0 (length s.waiting) || any_pends s) ≡ true → moment ≡ now_of s clock →
+    mid ≡ after_entries setup s (entries.Moment moment ∷ []) → (entries.Moment moment ∷ []) ++ entries_trying setup mid puts ≡ entries_turn setup s clock puts
+turn-entries setup s mid clock moment puts some at state =
+    let all = moment_entry s clock ∷ entries_trying setup (state_after setup s (moment_entry s clock)) puts in
+    ap (λ st. entries.Moment moment ∷ entries_trying setup st puts) state
+    ∙ ap (λ m. entries.Moment m ∷ entries_trying setup (state_after setup s (entries.Moment m)) puts) at
+    ∙ sym (ap (λ t. cond t all []) some)

@@ -1,6 +1,8 @@
 -- The entries that the hub's calls add, from the state in which each begins.
-use Rattle.std.specs.Prelude.{◌≡◌, nat_lt, ℕ, zero, suc, ◌+◌, not, map, count_by, Bool, true, false, if◌then◌else◌, List, [], ◌∷◌, ◌++◌, length, fold, find, slice_get, Option, Some, None}
+use Rattle.std.specs.Prelude.{◌≡◌, ◌||◌, nat_lt, ℕ, not, map, count_by, Bool, true, false, if◌then◌else◌, List, [], ◌∷◌, ◌++◌, length, fold, find, Option, Some, None}
+use Rattle.mail_names.specs.declared.name.ApprovalName.{ApprovalName}
 use Rattle.mail_names.specs.declared.name.ItemName.{ItemName}
+use Rattle.moderation.specs.declared.approval.Verdict.{Verdict}
 use Rattle.mail_plan.specs.Submission.{Submitted}
 use Rattle.mail_plan.specs.declared.entry.Entry.{Entry}
 use Rattle.mail_plan.specs.declared.entry.Entry.TheVariants as entries
@@ -8,12 +10,14 @@ use Rattle.hub_core.specs.declared.queue.QueuedItem.{QueuedItem}
 use Rattle.mail_plan.specs.declared.intake.Accepted.{Accepted}
 use Rattle.hub_core.specs.declared.command.Reply.TheVariants as replies
 use Rattle.mail_plan.specs.Planning.{Input}
+use Rattle.hub_core.specs.declared.live.TaskName.{TaskName}
 use Rattle.hub_core.specs.Setup.{Texts, Setup}
-use Rattle.hub_core.specs.Standing.{Mail, Standing, state_after, now_of, has_room, is_named, place_of_same, input_of}
+use Rattle.hub_core.specs.Mail.{Mail, waits, input_of, is_taken}
+use Rattle.hub_core.specs.Standing.{Standing, state_after, now_of, has_room, is_named, place_of_same, mail_of, any_pends, decision_of, tasks_of}
 use Rattle.hub_core.specs.Replies.{reply_submit}
 
-abbrev pub after_entries : Standing → List Entry → Standing
-after_entries s entries = fold state_after s entries
+abbrev pub after_entries : Setup → Standing → List Entry → Standing
+after_entries setup s entries = fold (state_after setup) s entries
 
 abbrev pub entries_new : Option ℕ → Standing → ℕ → Submitted → List Entry
 entries_new (Some place) s clock submission = []
@@ -26,29 +30,35 @@ entries_submit s clock submission = entries_new (place_of_same submission s.live
 
 -- the release that the setup prescribes for an input by an organisation
 abbrev pub entries_made : Setup → Input → Texts → List Entry
-entries_made setup input org = entries.Categorised input.number 0 (setup.release_of org input) ∷ []
+entries_made setup input org = entries.Categorised input.number input.release (setup.release_of org input) ∷ []
 
-abbrev pub entries_waiting : Setup → ℕ → Mail → Option Texts → List Entry
-entries_waiting setup number mail None = []
-entries_waiting setup number mail (Some org) = entries_made setup (input_of number mail) org
+abbrev pub entries_by : Setup → Input → Option Texts → List Entry
+entries_by setup input None = []
+entries_by setup input (Some org) = entries_made setup input org
 
-abbrev pub entries_mail : Setup → ℕ → Option Mail → List Entry
-entries_mail setup number None = []
-entries_mail setup number (Some mail) = entries_waiting setup number mail mail.org
+abbrev pub entries_mail : Setup → TaskName → Option Mail → List Entry
+entries_mail setup name None = []
+entries_mail setup name (Some mail) =
+    if waits mail name.release then entries_by setup (input_of name.submission mail name.release) mail.org else []
 
--- what categorising the submission at a place adds: nothing where it is categorised
-abbrev pub entries_at : Setup → Standing → ℕ → List Entry
-entries_at setup s place = entries_mail setup (place + 1) (slice_get s.live place)
+-- what categorising this release adds: nothing where it doesn't wait
+abbrev pub entries_at : Setup → Standing → TaskName → List Entry
+entries_at setup s name = entries_mail setup name (mail_of s name.submission)
 
--- what categorising at this many places adds, from a place on
-abbrev pub entries_all : Setup → ℕ → Standing → ℕ → List Entry
-entries_all setup zero s place = []
-entries_all setup (suc count) s place =
-    entries_at setup s place ++ entries_all setup count (after_entries s (entries_at setup s place)) (place + 1)
+-- what categorising these releases adds
+abbrev pub entries_all : Setup → Standing → List TaskName → List Entry
+entries_all setup s [] = []
+entries_all setup s (name ∷ names) =
+    entries_at setup s name ++ entries_all setup (after_entries setup s (entries_at setup s name)) names
 
--- what categorising all adds, by the numbers of the submissions
+-- what categorising all that waits adds, by submission and release
 abbrev pub entries_categorise : Setup → Standing → List Entry
-entries_categorise setup s = entries_all setup (length s.live) s 0
+entries_categorise setup s = entries_all setup s (tasks_of s)
+
+-- what a decision adds: nothing where it isn't taken
+abbrev pub entries_decide : Standing → ApprovalName → List ℕ → Verdict → ℕ → List Entry
+entries_decide s name by verdict clock =
+    if is_taken (decision_of s name by verdict (now_of s clock)) then entries.Decided name by verdict (now_of s clock) ∷ [] else []
 
 abbrev pub entries_put : ItemName → Option QueuedItem → Bool → List Entry
 entries_put name None put = []
@@ -60,11 +70,11 @@ abbrev pub entries_try : Standing → ItemName → Bool → List Entry
 entries_try s name put = entries_put name (find (is_named name) s.waiting) put
 
 -- what a try of each of these items adds, where their puts went so
-abbrev pub entries_tries : Standing → List ItemName → List Bool → List Entry
-entries_tries s [] puts = []
-entries_tries s (name ∷ names) [] = []
-entries_tries s (name ∷ names) (put ∷ puts) =
-    entries_try s name put ++ entries_tries (after_entries s (entries_try s name put)) names puts
+abbrev pub entries_tries : Setup → Standing → List ItemName → List Bool → List Entry
+entries_tries setup s [] puts = []
+entries_tries setup s (name ∷ names) [] = []
+entries_tries setup s (name ∷ names) (put ∷ puts) =
+    entries_try s name put ++ entries_tries setup (after_entries setup s (entries_try s name put)) names puts
 
 abbrev pub names_waiting : Standing → List ItemName
 names_waiting s = map (λ (item : QueuedItem). item.name) s.waiting
@@ -73,12 +83,16 @@ names_waiting s = map (λ (item : QueuedItem). item.name) s.waiting
 abbrev pub moment_entry : Standing → ℕ → Entry
 moment_entry s clock = entries.Moment (now_of s clock)
 
--- A turn at this clock, where the puts went so: its moment, and then a try of each item that waits. Where nothing waits
--- it adds nothing.
-abbrev pub entries_turn : Standing → ℕ → List Bool → List Entry
-entries_turn s clock puts =
-    if nat_lt 0 (length s.waiting)
-    then moment_entry s clock ∷ entries_tries (state_after s (moment_entry s clock)) (names_waiting s) puts
+-- what a turn's tries add, in the state that its moment leaves
+abbrev pub entries_trying : Setup → Standing → List Bool → List Entry
+entries_trying setup s puts = entries_tries setup s (names_waiting s) puts
+
+-- A turn at this clock, where the puts went so: its moment, at which approvals run out, and then a try of each item that waits
+-- behind it. Where no item waits and no approval pends it adds nothing.
+abbrev pub entries_turn : Setup → Standing → ℕ → List Bool → List Entry
+entries_turn setup s clock puts =
+    if nat_lt 0 (length s.waiting) || any_pends s
+    then moment_entry s clock ∷ entries_trying setup (state_after setup s (moment_entry s clock)) puts
     else []
 
 -- how many puts failed

@@ -1,6 +1,7 @@
 pub mod Stands
 pub mod Room
 pub mod Calls
+pub mod Deciding
 pub mod Planning
 pub mod Ready
 pub mod Faults

@@ -44,6 +44,7 @@ Leaves most h left (faults.LogFull octets) = IsFull most h left octets
 Leaves most h left (faults.NotALog at) = ⊥
 Leaves most h left (faults.Org fault) = ⊥
 Leaves most h left (faults.EpochsFull live) = ⊥
+Leaves most h left faults.NoSuchApproval = ⊥
 
 -- A call stopped with this fault before it added any of its entries.
 pub record Declined (setup : Setup) (s : State) (hub : Kept) (h es : List Entry) (fault : HubFault) : Type 0 where
@@ -64,6 +65,7 @@ IsTrueOf setup h (entries.Delivered name) shelf = IsShelved setup h name shelf
 IsTrueOf setup h (entries.Organised directory rules) shelf = Unit {0}
 IsTrueOf setup h (entries.Accepted moment submission) shelf = Unit {0}
 IsTrueOf setup h (entries.Categorised number release plan) shelf = Unit {0}
+IsTrueOf setup h (entries.Decided name by verdict moment) shelf = Unit {0}
 IsTrueOf setup h (entries.Moment moment) shelf = Unit {0}
 
 -- The entry can stand behind the history, over this shelf.

@@ -25,6 +25,7 @@ Refuses setup s hub h was submission clock (faults.LogFull octets) =
 Refuses setup s hub h was submission clock (faults.NotALog at) = ⊥
 Refuses setup s hub h was submission clock (faults.Org fault) = ⊥
 Refuses setup s hub h was submission clock (faults.EpochsFull live) = ⊥
+Refuses setup s hub h was submission clock faults.NoSuchApproval = ⊥
 
 -- Nothing was added to the history. The texts have this fault, so many organisations are live with no room for one more, or
 -- the log has no room for the organisation.
@@ -38,3 +39,4 @@ RefusesOrg setup s hub h was org faults.NoMemory = IsReady setup s hub h
 RefusesOrg setup s hub h was org faults.DiskFault = ⊥
 RefusesOrg setup s hub h was org (faults.QueueFull live bytes) = ⊥
 RefusesOrg setup s hub h was org (faults.NotALog at) = ⊥
+RefusesOrg setup s hub h was org faults.NoSuchApproval = ⊥

@@ -27,6 +27,7 @@ fn refused(fault: HubFault) -> IntakeFault
         // No submission meets these.
         HubFault::Org { .. } => IntakeFault::NoMemory,
         HubFault::EpochsFull { .. } => IntakeFault::NoMemory,
+        HubFault::NoSuchApproval => IntakeFault::NoMemory,
     }
 }
 

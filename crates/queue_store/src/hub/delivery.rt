@@ -1,5 +1,5 @@
 // Categorising what was accepted, and turns in which what waits is tried.
-ghost use Rattle.std.specs.Prelude.{◌≡◌, ◌⊎◌, ◌+◌, ◌<◌, ◌^◌, length, List, ◌++◌, false, Bool, IsTrue, IfOk, IfErr, OnOk, IsErrOf, Ok, true};
+ghost use Rattle.std.specs.Prelude.{◌≡◌, ◌⊎◌, ◌||◌, nat_lt, length, List, ◌++◌, false, Bool, IsTrue, IfOk, IfErr, OnOk, IsErrOf, Ok, true};
 ghost use Rattle.port_io.specs.Causes.{Rose, RoseBy};
 ghost use Rattle.mail_plan.specs.declared.entry.Entry.{Entry};
 ghost use Rattle.plant_dev.specs.Disk.{Stays};
@@ -7,35 +7,35 @@ ghost use Rattle.plant_dev.specs.Shelf.{Has};
 ghost use Rattle.hub_core.specs.Items.{items, Among};
 ghost use Rattle.hub_core.specs.declared.limits.Limits.{Limits};
 ghost use Rattle.hub_core.specs.Setup.{Setup, setup_of};
+ghost use Rattle.hub_core.specs.Standing.{any_pends};
 ghost use Rattle.queue_store.specs.Ready.{Kept, IsReady, Adds, Declined, Stops};
 
 use super::Hub;
 use crate::HubFault;
-use hub_core::QueuedItem;
+use hub_core::{QueuedItem, TaskName};
 use mail_names::{ItemName, NoMemory};
 use mail_plan::{Entry, Planner, plan};
 use plant_dev::{Plant, ShelfFault};
 use std::alloc::Global;
 
 impl<T: Planner> Hub<T> {
-    ghost use Rattle.queue_store.specs.Calls.{entries_at, entries_categorise, entries_try, entries_tries, entries_turn, misses};
+    ghost use Rattle.queue_store.specs.Calls.{entries_at, entries_all, entries_categorise, entries_try, entries_tries, entries_trying, entries_turn, misses};
 
-    // Categorises the submission at a place, unless it is.
-    fn categorise_at<P: Plant>(
+    // Categorises a release, where it waits.
+    fn categorise<P: Plant>(
         &mut self,
         alloc: Global,
         plant: &mut P,
-        place: usize,
+        name: &TaskName,
     ) -> Result<(), HubFault>
-        requires { place + 1 < 2 ^ 64 }
-        ensures adds { (limits : Limits) (h : List Entry) → IsReady (setup_of T.reads T.release_of limits) (P.state plant.old) self.old h →
-            OnOk result (Adds (setup_of T.reads T.release_of limits) (P.state plant.new) self.new h (entries_at (setup_of T.reads T.release_of limits) self.old.state place)) }
-        ensures declines { (limits : Limits) (h : List Entry) → IsReady (setup_of T.reads T.release_of limits) (P.state plant.old) self.old h →
-            IfErr result (λ e. (e ≡ HubFault.DiskFault) ⊎ Declined (setup_of T.reads T.release_of limits) (P.state plant.new) self.new h (entries_at (setup_of T.reads T.release_of limits) self.old.state place) e) }
+        ensures adds { (limits : Limits) (h : List Entry) → IsReady (setup_of T.reads T.release_of T.inside limits) (P.state plant.old) self.old h →
+            OnOk result (Adds (setup_of T.reads T.release_of T.inside limits) (P.state plant.new) self.new h (entries_at (setup_of T.reads T.release_of T.inside limits) self.old.state name.now)) }
+        ensures declines { (limits : Limits) (h : List Entry) → IsReady (setup_of T.reads T.release_of T.inside limits) (P.state plant.old) self.old h →
+            IfErr result (λ e. (e ≡ HubFault.DiskFault) ⊎ Declined (setup_of T.reads T.release_of T.inside limits) (P.state plant.new) self.new h (entries_at (setup_of T.reads T.release_of T.inside limits) self.old.state name.now) e) }
         ensures stays { Stays (P.state plant.old) (P.state plant.new) }
         ensures cause { IsErrOf result HubFault.DiskFault → Rose (P.state plant.old).disk_faults (P.state plant.new).disk_faults }
     {
-        match self.state.task_at(alloc, place) {
+        match self.state.task_of(alloc, name) {
             Err(NoMemory) => Err(HubFault::NoMemory),
             Ok(None) => Ok(()),
             Ok(Some(task)) => match plan(alloc, task) {
@@ -73,18 +73,22 @@ impl<T: Planner> Hub<T> {
         }
     }
 
-    // Categorises each submission that isn't, where the log is open.
-    fn categorise_each<P: Plant>(&mut self, alloc: Global, plant: &mut P) -> Result<(), HubFault>
-        ensures adds { (limits : Limits) (h : List Entry) → IsReady (setup_of T.reads T.release_of limits) (P.state plant.old) self.old h →
-            OnOk result (Adds (setup_of T.reads T.release_of limits) (P.state plant.new) self.new h (entries_categorise (setup_of T.reads T.release_of limits) self.old.state)) }
-        ensures stops { (limits : Limits) (h : List Entry) → IsReady (setup_of T.reads T.release_of limits) (P.state plant.old) self.old h →
-            IfErr result (λ e. (e ≡ HubFault.DiskFault) ⊎ Stops (setup_of T.reads T.release_of limits) (P.state plant.new) self.new h (entries_categorise (setup_of T.reads T.release_of limits) self.old.state) e) }
+    // Categorises each of these releases that waits, in order.
+    fn categorise_each<P: Plant>(
+        &mut self,
+        alloc: Global,
+        plant: &mut P,
+        names: &[TaskName],
+    ) -> Result<(), HubFault>
+        ensures adds { (limits : Limits) (h : List Entry) → IsReady (setup_of T.reads T.release_of T.inside limits) (P.state plant.old) self.old h →
+            OnOk result (Adds (setup_of T.reads T.release_of T.inside limits) (P.state plant.new) self.new h (entries_all (setup_of T.reads T.release_of T.inside limits) self.old.state names.now)) }
+        ensures stops { (limits : Limits) (h : List Entry) → IsReady (setup_of T.reads T.release_of T.inside limits) (P.state plant.old) self.old h →
+            IfErr result (λ e. (e ≡ HubFault.DiskFault) ⊎ Stops (setup_of T.reads T.release_of T.inside limits) (P.state plant.new) self.new h (entries_all (setup_of T.reads T.release_of T.inside limits) self.old.state names.now) e) }
         ensures stays { Stays (P.state plant.old) (P.state plant.new) }
         ensures cause { IsErrOf result HubFault.DiskFault → Rose (P.state plant.old).disk_faults (P.state plant.new).disk_faults }
     {
-        let count = self.state.live().len();
-        for place in 0..count {
-            match self.categorise_at(alloc, plant, place) {
+        for name in names {
+            match self.categorise(alloc, plant, name) {
                 Ok(()) => {}
                 Err(fault) => return Err(fault),
             }
@@ -92,17 +96,21 @@ impl<T: Planner> Hub<T> {
         Ok(())
     }
 
-    /// Categorises each submission that isn't, in the order of their numbers.
+    /// Categorises each release that waits, by submission and release.
     pub fn categorise_all<P: Plant>(&mut self, alloc: Global, plant: &mut P) -> Result<(), HubFault>
-        ensures adds { (limits : Limits) (h : List Entry) → IsReady (setup_of T.reads T.release_of limits) (P.state plant.old) self.old h →
-            OnOk result (Adds (setup_of T.reads T.release_of limits) (P.state plant.new) self.new h (entries_categorise (setup_of T.reads T.release_of limits) self.old.state)) }
-        ensures stops { (limits : Limits) (h : List Entry) → IsReady (setup_of T.reads T.release_of limits) (P.state plant.old) self.old h →
-            IfErr result (λ e. (e ≡ HubFault.DiskFault) ⊎ Stops (setup_of T.reads T.release_of limits) (P.state plant.new) self.new h (entries_categorise (setup_of T.reads T.release_of limits) self.old.state) e) }
+        ensures adds { (limits : Limits) (h : List Entry) → IsReady (setup_of T.reads T.release_of T.inside limits) (P.state plant.old) self.old h →
+            OnOk result (Adds (setup_of T.reads T.release_of T.inside limits) (P.state plant.new) self.new h (entries_categorise (setup_of T.reads T.release_of T.inside limits) self.old.state)) }
+        ensures stops { (limits : Limits) (h : List Entry) → IsReady (setup_of T.reads T.release_of T.inside limits) (P.state plant.old) self.old h →
+            IfErr result (λ e. (e ≡ HubFault.DiskFault) ⊎ Stops (setup_of T.reads T.release_of T.inside limits) (P.state plant.new) self.new h (entries_categorise (setup_of T.reads T.release_of T.inside limits) self.old.state) e) }
         ensures stays { Stays (P.state plant.old) (P.state plant.new) }
         ensures cause { IsErrOf result HubFault.DiskFault → Rose (P.state plant.old).disk_faults (P.state plant.new).disk_faults }
     {
         self.mend(alloc, plant)?;
-        self.categorise_each(alloc, plant)
+        let names = match self.state.uncategorised(alloc) {
+            Ok(names) => names,
+            Err(NoMemory) => return Err(HubFault::NoMemory),
+        };
+        self.categorise_each(alloc, plant, &names)
     }
 
     // Tries each of these items once, in order.
@@ -113,11 +121,11 @@ impl<T: Planner> Hub<T> {
         names: &[ItemName],
     ) -> Result<(), HubFault>
         ensures adds { (setup : Setup) (h : List Entry) → IsReady setup (P.state plant.old) self.old h → OnOk result ((puts : List Bool)
-            × Adds setup (P.state plant.new) self.new h (entries_tries self.old.state names.now puts)
+            × Adds setup (P.state plant.new) self.new h (entries_tries setup self.old.state names.now puts)
             × RoseBy (misses puts) (P.state plant.old).shelf_faults (P.state plant.new).shelf_faults) }
         ensures stops { (setup : Setup) (h : List Entry) → IsReady setup (P.state plant.old) self.old h →
             IfErr result (λ e. (e ≡ HubFault.DiskFault) ⊎ ((puts : List Bool)
-            × Stops setup (P.state plant.new) self.new h (entries_tries self.old.state names.now puts) e
+            × Stops setup (P.state plant.new) self.new h (entries_tries setup self.old.state names.now puts) e
             × RoseBy (misses puts) (P.state plant.old).shelf_faults (P.state plant.new).shelf_faults)) }
         ensures stays { Stays (P.state plant.old) (P.state plant.new) }
         ensures cause { IsErrOf result HubFault.DiskFault → Rose (P.state plant.old).disk_faults (P.state plant.new).disk_faults }
@@ -131,20 +139,14 @@ impl<T: Planner> Hub<T> {
         Ok(())
     }
 
-    // A turn where an item waits and the log is open.
-    fn turn_over<P: Plant>(
-        &mut self,
-        alloc: Global,
-        plant: &mut P,
-        clock: u64,
-    ) -> Result<(), HubFault>
-        requires { 0 < length self.old.state.waiting }
+    // Tries each item that waits once, in order.
+    fn try_waiting<P: Plant>(&mut self, alloc: Global, plant: &mut P) -> Result<(), HubFault>
         ensures adds { (setup : Setup) (h : List Entry) → IsReady setup (P.state plant.old) self.old h → OnOk result ((puts : List Bool)
-            × Adds setup (P.state plant.new) self.new h (entries_turn self.old.state clock puts)
+            × Adds setup (P.state plant.new) self.new h (entries_trying setup self.old.state puts)
             × RoseBy (misses puts) (P.state plant.old).shelf_faults (P.state plant.new).shelf_faults) }
         ensures stops { (setup : Setup) (h : List Entry) → IsReady setup (P.state plant.old) self.old h →
             IfErr result (λ e. (e ≡ HubFault.DiskFault) ⊎ ((puts : List Bool)
-            × Stops setup (P.state plant.new) self.new h (entries_turn self.old.state clock puts) e
+            × Stops setup (P.state plant.new) self.new h (entries_trying setup self.old.state puts) e
             × RoseBy (misses puts) (P.state plant.old).shelf_faults (P.state plant.new).shelf_faults)) }
         ensures stays { Stays (P.state plant.old) (P.state plant.new) }
         ensures cause { IsErrOf result HubFault.DiskFault → Rose (P.state plant.old).disk_faults (P.state plant.new).disk_faults }
@@ -153,33 +155,54 @@ impl<T: Planner> Hub<T> {
             Ok(names) => names,
             Err(NoMemory) => return Err(HubFault::NoMemory),
         };
+        self.try_all(alloc, plant, &names)
+    }
+
+    // A turn where an item waits or an approval pends, and the log is open.
+    fn turn_over<P: Plant>(
+        &mut self,
+        alloc: Global,
+        plant: &mut P,
+        clock: u64,
+    ) -> Result<(), HubFault>
+        requires { (nat_lt 0 (length self.old.state.waiting) || any_pends self.old.state) ≡ true }
+        ensures adds { (limits : Limits) (h : List Entry) → IsReady (setup_of T.reads T.release_of T.inside limits) (P.state plant.old) self.old h → OnOk result ((puts : List Bool)
+            × Adds (setup_of T.reads T.release_of T.inside limits) (P.state plant.new) self.new h (entries_turn (setup_of T.reads T.release_of T.inside limits) self.old.state clock puts)
+            × RoseBy (misses puts) (P.state plant.old).shelf_faults (P.state plant.new).shelf_faults) }
+        ensures stops { (limits : Limits) (h : List Entry) → IsReady (setup_of T.reads T.release_of T.inside limits) (P.state plant.old) self.old h →
+            IfErr result (λ e. (e ≡ HubFault.DiskFault) ⊎ ((puts : List Bool)
+            × Stops (setup_of T.reads T.release_of T.inside limits) (P.state plant.new) self.new h (entries_turn (setup_of T.reads T.release_of T.inside limits) self.old.state clock puts) e
+            × RoseBy (misses puts) (P.state plant.old).shelf_faults (P.state plant.new).shelf_faults)) }
+        ensures stays { Stays (P.state plant.old) (P.state plant.new) }
+        ensures cause { IsErrOf result HubFault.DiskFault → Rose (P.state plant.old).disk_faults (P.state plant.new).disk_faults }
+    {
         let moment = self.state.now(clock);
         match self.append(alloc, plant, Entry::Moment { moment }) {
-            Ok(()) => self.try_all(alloc, plant, &names),
+            Ok(()) => self.try_waiting(alloc, plant),
             Err(fault) => Err(fault),
         }
     }
 
-    /// A turn at this clock (seconds since 1970-01-01T00:00:00Z): each item that waits is tried once, in order.
-    /// Where none waits nothing is added.
+    /// A turn at this clock (seconds since 1970-01-01T00:00:00Z): the approvals whose deadline has come run out, and then each
+    /// item that waits is tried once, in order. Where no item waits and no approval pends nothing is added.
     pub fn turn<P: Plant>(
         &mut self,
         alloc: Global,
         plant: &mut P,
         clock: u64,
     ) -> Result<(), HubFault>
-        ensures adds { (setup : Setup) (h : List Entry) → IsReady setup (P.state plant.old) self.old h → OnOk result ((puts : List Bool)
-            × Adds setup (P.state plant.new) self.new h (entries_turn self.old.state clock puts)
+        ensures adds { (limits : Limits) (h : List Entry) → IsReady (setup_of T.reads T.release_of T.inside limits) (P.state plant.old) self.old h → OnOk result ((puts : List Bool)
+            × Adds (setup_of T.reads T.release_of T.inside limits) (P.state plant.new) self.new h (entries_turn (setup_of T.reads T.release_of T.inside limits) self.old.state clock puts)
             × RoseBy (misses puts) (P.state plant.old).shelf_faults (P.state plant.new).shelf_faults) }
-        ensures stops { (setup : Setup) (h : List Entry) → IsReady setup (P.state plant.old) self.old h →
+        ensures stops { (limits : Limits) (h : List Entry) → IsReady (setup_of T.reads T.release_of T.inside limits) (P.state plant.old) self.old h →
             IfErr result (λ e. (e ≡ HubFault.DiskFault) ⊎ ((puts : List Bool)
-            × Stops setup (P.state plant.new) self.new h (entries_turn self.old.state clock puts) e
+            × Stops (setup_of T.reads T.release_of T.inside limits) (P.state plant.new) self.new h (entries_turn (setup_of T.reads T.release_of T.inside limits) self.old.state clock puts) e
             × RoseBy (misses puts) (P.state plant.old).shelf_faults (P.state plant.new).shelf_faults)) }
         ensures stays { Stays (P.state plant.old) (P.state plant.new) }
         ensures cause { IsErrOf result HubFault.DiskFault → Rose (P.state plant.old).disk_faults (P.state plant.new).disk_faults }
     {
         self.mend(alloc, plant)?;
-        if !self.state.is_waiting() {
+        if !self.state.is_waiting() && !self.state.pends() {
             return Ok(());
         }
         self.turn_over(alloc, plant, clock)

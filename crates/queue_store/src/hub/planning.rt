@@ -1,12 +1,13 @@
 // Organisations that come into force, and releases that are made for the hub.
-ghost use Rattle.std.specs.Prelude.{◌≡◌, ◌⊎◌, ◌+◌, ◌-◌, ◌<◌, length, List, false, IsTrue, IsOk, IfOk, IfErr, IfSome, OnOk, IsErrOf, option_map, slice_get, unwrap_or};
+ghost use Rattle.std.specs.Prelude.{◌≡◌, ◌⊎◌, ◌<◌, List, false, IsTrue, IsOk, IfOk, IfErr, IfSome, OnOk, IsErrOf, option_map, unwrap_or};
 ghost use Rattle.std.specs.Arc.{arc_value};
 ghost use Rattle.port_io.specs.Causes.{Rose};
 ghost use Rattle.mail_plan.specs.declared.entry.Entry.{Entry};
 ghost use Rattle.plant_dev.specs.Disk.{Stays};
 ghost use Rattle.hub_core.specs.declared.limits.Limits.{Limits};
 ghost use Rattle.hub_core.specs.Setup.{Setup, setup_of, texts_of};
-ghost use Rattle.hub_core.specs.Standing.{IsTask, first_task};
+ghost use Rattle.hub_core.specs.Mail.{IsTask};
+ghost use Rattle.hub_core.specs.Standing.{mail_of, task_name, first_task};
 ghost use Rattle.hub_core.specs.Replies.{reply_commit};
 ghost use Rattle.queue_store.specs.Ready.{IsReady, Adds, Declined};
 ghost use Rattle.queue_store.specs.Planning.{IsOrgReply, AnswersOrg, IsCommitReply, reply_of_end};
@@ -31,12 +32,12 @@ impl<T: Planner> Hub<T> {
         directory: Bytes,
         rules: Bytes,
     ) -> Result<u32, HubFault>
-        ensures epoch { IfOk result (IsInForce (setup_of T.reads T.release_of self.old.state.limits) self.old.state (record { directory = directory; rules = rules })) }
-        ensures adds { (limits : Limits) (h : List Entry) → IsReady (setup_of T.reads T.release_of limits) (P.state plant.old) self.old h →
-            OnOk result (Adds (setup_of T.reads T.release_of limits) (P.state plant.new) self.new h (entries_organise (setup_of T.reads T.release_of limits) self.old.state (record { directory = directory; rules = rules }))) }
-        ensures declines { (limits : Limits) (h : List Entry) → IsReady (setup_of T.reads T.release_of limits) (P.state plant.old) self.old h →
+        ensures epoch { IfOk result (IsInForce (setup_of T.reads T.release_of T.inside self.old.state.limits) self.old.state (record { directory = directory; rules = rules })) }
+        ensures adds { (limits : Limits) (h : List Entry) → IsReady (setup_of T.reads T.release_of T.inside limits) (P.state plant.old) self.old h →
+            OnOk result (Adds (setup_of T.reads T.release_of T.inside limits) (P.state plant.new) self.new h (entries_organise (setup_of T.reads T.release_of T.inside limits) self.old.state (record { directory = directory; rules = rules }))) }
+        ensures declines { (limits : Limits) (h : List Entry) → IsReady (setup_of T.reads T.release_of T.inside limits) (P.state plant.old) self.old h →
             IfErr result (λ e. (e ≡ HubFault.DiskFault)
-            ⊎ RefusesOrg (setup_of T.reads T.release_of limits) (P.state plant.new) self.new h self.old.state (record { directory = directory; rules = rules }) e) }
+            ⊎ RefusesOrg (setup_of T.reads T.release_of T.inside limits) (P.state plant.new) self.new h self.old.state (record { directory = directory; rules = rules }) e) }
         ensures open { self.old.broken ≡ false → IsOk result → self.new.broken ≡ false }
         ensures shelf { IsTrue (P.state plant.old).honest → (P.state plant.new).image.shelf ≡ (P.state plant.old).image.shelf }
         ensures stays { Stays (P.state plant.old) (P.state plant.new) }
@@ -71,12 +72,12 @@ impl<T: Planner> Hub<T> {
         directory: Option<Bytes>,
         rules: Option<Bytes>,
     ) -> Result<u32, HubFault>
-        ensures epoch { IfOk result (IsInForce (setup_of T.reads T.release_of self.old.state.limits) self.old.state (texts_asked self.old.state directory rules)) }
-        ensures adds { (limits : Limits) (h : List Entry) → IsReady (setup_of T.reads T.release_of limits) (P.state plant.old) self.old h →
-            OnOk result (Adds (setup_of T.reads T.release_of limits) (P.state plant.new) self.new h (entries_organise (setup_of T.reads T.release_of limits) self.old.state (texts_asked self.old.state directory rules))) }
-        ensures declines { (limits : Limits) (h : List Entry) → IsReady (setup_of T.reads T.release_of limits) (P.state plant.old) self.old h →
+        ensures epoch { IfOk result (IsInForce (setup_of T.reads T.release_of T.inside self.old.state.limits) self.old.state (texts_asked self.old.state directory rules)) }
+        ensures adds { (limits : Limits) (h : List Entry) → IsReady (setup_of T.reads T.release_of T.inside limits) (P.state plant.old) self.old h →
+            OnOk result (Adds (setup_of T.reads T.release_of T.inside limits) (P.state plant.new) self.new h (entries_organise (setup_of T.reads T.release_of T.inside limits) self.old.state (texts_asked self.old.state directory rules))) }
+        ensures declines { (limits : Limits) (h : List Entry) → IsReady (setup_of T.reads T.release_of T.inside limits) (P.state plant.old) self.old h →
             IfErr result (λ e. (e ≡ HubFault.DiskFault)
-            ⊎ RefusesOrg (setup_of T.reads T.release_of limits) (P.state plant.new) self.new h self.old.state (texts_asked self.old.state directory rules) e) }
+            ⊎ RefusesOrg (setup_of T.reads T.release_of T.inside limits) (P.state plant.new) self.new h self.old.state (texts_asked self.old.state directory rules) e) }
         ensures open { self.old.broken ≡ false → IsOk result → self.new.broken ≡ false }
         ensures shelf { IsTrue (P.state plant.old).honest → (P.state plant.new).image.shelf ≡ (P.state plant.old).image.shelf }
         ensures stays { Stays (P.state plant.old) (P.state plant.new) }
@@ -105,12 +106,12 @@ impl<T: Planner> Hub<T> {
         directory: Option<Bytes>,
         rules: Option<Bytes>,
     ) -> Result<u32, HubFault>
-        ensures epoch { self.old.broken ≡ false → IfOk result (IsInForce (setup_of T.reads T.release_of self.old.state.limits) self.old.state (texts_asked self.old.state directory rules)) }
-        ensures adds { (limits : Limits) (h : List Entry) → IsReady (setup_of T.reads T.release_of limits) (P.state plant.old) self.old h →
-            OnOk result (Adds (setup_of T.reads T.release_of limits) (P.state plant.new) self.new h (entries_organise (setup_of T.reads T.release_of limits) self.old.state (texts_asked self.old.state directory rules))) }
-        ensures declines { (limits : Limits) (h : List Entry) → IsReady (setup_of T.reads T.release_of limits) (P.state plant.old) self.old h →
+        ensures epoch { self.old.broken ≡ false → IfOk result (IsInForce (setup_of T.reads T.release_of T.inside self.old.state.limits) self.old.state (texts_asked self.old.state directory rules)) }
+        ensures adds { (limits : Limits) (h : List Entry) → IsReady (setup_of T.reads T.release_of T.inside limits) (P.state plant.old) self.old h →
+            OnOk result (Adds (setup_of T.reads T.release_of T.inside limits) (P.state plant.new) self.new h (entries_organise (setup_of T.reads T.release_of T.inside limits) self.old.state (texts_asked self.old.state directory rules))) }
+        ensures declines { (limits : Limits) (h : List Entry) → IsReady (setup_of T.reads T.release_of T.inside limits) (P.state plant.old) self.old h →
             IfErr result (λ e. (e ≡ HubFault.DiskFault)
-            ⊎ RefusesOrg (setup_of T.reads T.release_of limits) (P.state plant.new) self.new h self.old.state (texts_asked self.old.state directory rules) e) }
+            ⊎ RefusesOrg (setup_of T.reads T.release_of T.inside limits) (P.state plant.new) self.new h self.old.state (texts_asked self.old.state directory rules) e) }
         ensures open { IsOk result → self.new.broken ≡ false }
         ensures shelf { IsTrue (P.state plant.old).honest → (P.state plant.new).image.shelf ≡ (P.state plant.old).image.shelf }
         ensures stays { Stays (P.state plant.old) (P.state plant.new) }
@@ -120,8 +121,8 @@ impl<T: Planner> Hub<T> {
         self.change_given(alloc, plant, directory, rules)
     }
 
-    /// The task of the first release, by submission, that isn't categorised and whose submission's number leaves this
-    /// residue. None where there is none.
+    /// The task of the first release, by submission and release, that isn't categorised and whose submission's number leaves
+    /// this residue. None where there is none.
     pub fn take<P: Plant>(
         &mut self,
         alloc: Global,
@@ -130,8 +131,8 @@ impl<T: Planner> Hub<T> {
         workers: u32,
     ) -> Result<Option<Task<T>>, HubFault>
         requires { residue < workers }
-        ensures first { self.old.broken ≡ false → IfOk result (λ task. option_map (λ (t : _). t.input.number) task ≡ first_task residue workers 1 self.old.state.live) }
-        ensures made { self.old.broken ≡ false → IfOk result (λ task. IfSome task (λ t. IfSome (slice_get self.old.state.live (t.input.number - 1))
+        ensures first { self.old.broken ≡ false → IfOk result (λ task. option_map (λ (t : _). task_name t.input) task ≡ first_task residue workers 1 self.old.state.live) }
+        ensures made { self.old.broken ≡ false → IfOk result (λ task. IfSome task (λ t. IfSome (mail_of self.old.state t.input.number)
             (λ mail. IsTask t.input.number mail t.input (texts_of T.directory_of T.rules_of (arc_value t.org))))) }
         ensures kept { (setup : Setup) (h : List Entry) → IsReady setup (P.state plant.old) self.old h → IsReady setup (P.state plant.new) self.new h }
         ensures open { IsOk result → self.new.broken ≡ false }
@@ -153,17 +154,20 @@ impl<T: Planner> Hub<T> {
         outcome: Outcome<T>,
     ) -> Result<CommitEnd, HubFault>
         ensures end { IfOk result (λ end. reply_of_end end ≡ reply_commit self.old.state outcome.1 (texts_of T.directory_of T.rules_of outcome.0)) }
-        ensures adds { (limits : Limits) (h : List Entry) → IsReady (setup_of T.reads T.release_of limits) (P.state plant.old) self.old h →
-            OnOk result (Adds (setup_of T.reads T.release_of limits) (P.state plant.new) self.new h (entries_commit self.old.state outcome.1 (texts_of T.directory_of T.rules_of outcome.0) outcome.2)) }
-        ensures declines { (limits : Limits) (h : List Entry) → IsReady (setup_of T.reads T.release_of limits) (P.state plant.old) self.old h →
+        ensures adds { (limits : Limits) (h : List Entry) → IsReady (setup_of T.reads T.release_of T.inside limits) (P.state plant.old) self.old h →
+            OnOk result (Adds (setup_of T.reads T.release_of T.inside limits) (P.state plant.new) self.new h (entries_commit self.old.state outcome.1 (texts_of T.directory_of T.rules_of outcome.0) outcome.2)) }
+        ensures declines { (limits : Limits) (h : List Entry) → IsReady (setup_of T.reads T.release_of T.inside limits) (P.state plant.old) self.old h →
             IfErr result (λ e. (e ≡ HubFault.DiskFault)
-            ⊎ Declined (setup_of T.reads T.release_of limits) (P.state plant.new) self.new h (entries_commit self.old.state outcome.1 (texts_of T.directory_of T.rules_of outcome.0) outcome.2) e) }
+            ⊎ Declined (setup_of T.reads T.release_of T.inside limits) (P.state plant.new) self.new h (entries_commit self.old.state outcome.1 (texts_of T.directory_of T.rules_of outcome.0) outcome.2) e) }
         ensures open { self.old.broken ≡ false → IsOk result → self.new.broken ≡ false }
         ensures shelf { IsTrue (P.state plant.old).honest → (P.state plant.new).image.shelf ≡ (P.state plant.old).image.shelf }
         ensures stays { Stays (P.state plant.old) (P.state plant.new) }
         ensures cause { IsErrOf result HubFault.DiskFault → Rose (P.state plant.old).disk_faults (P.state plant.new).disk_faults }
     {
-        let reply = self.state.judge_commit(&outcome);
+        let reply = match self.state.judge_commit(alloc, &outcome) {
+            Ok(reply) => reply,
+            Err(NoMemory) => return Err(HubFault::NoMemory),
+        };
         match end_of(reply) {
             CommitEnd::Committed => match self.add_release(alloc, plant, outcome) {
                 Ok(()) => Ok(CommitEnd::Committed),
@@ -185,11 +189,11 @@ impl<T: Planner> Hub<T> {
     ) -> Result<CommitEnd, HubFault>
         ensures end { self.old.broken ≡ false →
             IfOk result (λ end. reply_of_end end ≡ reply_commit self.old.state outcome.1 (texts_of T.directory_of T.rules_of outcome.0)) }
-        ensures adds { (limits : Limits) (h : List Entry) → IsReady (setup_of T.reads T.release_of limits) (P.state plant.old) self.old h →
-            OnOk result (Adds (setup_of T.reads T.release_of limits) (P.state plant.new) self.new h (entries_commit self.old.state outcome.1 (texts_of T.directory_of T.rules_of outcome.0) outcome.2)) }
-        ensures declines { (limits : Limits) (h : List Entry) → IsReady (setup_of T.reads T.release_of limits) (P.state plant.old) self.old h →
+        ensures adds { (limits : Limits) (h : List Entry) → IsReady (setup_of T.reads T.release_of T.inside limits) (P.state plant.old) self.old h →
+            OnOk result (Adds (setup_of T.reads T.release_of T.inside limits) (P.state plant.new) self.new h (entries_commit self.old.state outcome.1 (texts_of T.directory_of T.rules_of outcome.0) outcome.2)) }
+        ensures declines { (limits : Limits) (h : List Entry) → IsReady (setup_of T.reads T.release_of T.inside limits) (P.state plant.old) self.old h →
             IfErr result (λ e. (e ≡ HubFault.DiskFault)
-            ⊎ Declined (setup_of T.reads T.release_of limits) (P.state plant.new) self.new h (entries_commit self.old.state outcome.1 (texts_of T.directory_of T.rules_of outcome.0) outcome.2) e) }
+            ⊎ Declined (setup_of T.reads T.release_of T.inside limits) (P.state plant.new) self.new h (entries_commit self.old.state outcome.1 (texts_of T.directory_of T.rules_of outcome.0) outcome.2) e) }
         ensures open { IsOk result → self.new.broken ≡ false }
         ensures shelf { IsTrue (P.state plant.old).honest → (P.state plant.new).image.shelf ≡ (P.state plant.old).image.shelf }
         ensures stays { Stays (P.state plant.old) (P.state plant.new) }
@@ -225,6 +229,8 @@ fn epoch_of(reply: Reply) -> Result<u32, HubFault>
         Reply::Already => unreachable!(),
         Reply::Unknown => unreachable!(),
         Reply::NotItsInput { .. } => unreachable!(),
+        Reply::NoSuchApproval => unreachable!(),
+        Reply::Decided { .. } => unreachable!(),
         Reply::Done => unreachable!(),
         Reply::NotNow => unreachable!(),
     }
@@ -245,6 +251,8 @@ fn end_of(reply: Reply) -> CommitEnd
         Reply::Org { .. } => unreachable!(),
         Reply::Accepted { .. } => unreachable!(),
         Reply::QueueFull { .. } => unreachable!(),
+        Reply::NoSuchApproval => unreachable!(),
+        Reply::Decided { .. } => unreachable!(),
         Reply::Done => unreachable!(),
         Reply::NotNow => unreachable!(),
     }

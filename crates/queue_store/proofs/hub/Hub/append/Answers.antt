@@ -1,6 +1,7 @@
 use Rattle.std.proofs.Common.{◌∙◌, sym, ap, subst, inr, arith}
 use Rattle.plant_dev.proofs.Moments.{stays_honest}
 use Rattle.queue_disk.specs.Log.{IsOpen}
+use Rattle.hub_core.specs.Setup.{setup_of}
 use Rattle.hub_core.specs.Standing.{Standing, state_after}
 use Rattle.hub_core.proofs.Prescribed.{standing-push}
 use Rattle.queue_disk.specs.declared.log.Framed.{Framed}
@@ -11,7 +12,7 @@ use Rattle.queue_store.proofs.Stepping.{handed, framed-leaves}
 use Rattle.queue_store.proofs.hub.Hub.append.Goals as goal
 
 pub returns-in-Ok-write-clause-adds : goal.returns-in-Ok-write-clause-adds
-returns-in-Ok-write-clause-adds g c setup h ready follows =
+returns-in-Ok-write-clause-adds g c setup h ready follows same =
     let s0 = g.P.Plant.state c.args.plant.now in
     let s1 = g.P.Plant.state c.write.new.plant in
     let entry = c.args.entry in
@@ -23,7 +24,9 @@ returns-in-Ok-write-clause-adds g c setup h ready follows =
       ready = record {
         honest = stays_honest s0 s1 c.write.ensures.stays ready.honest;
         whole = ap (λ (k : Kept). k.broken) c.self.view_is ∙ ready.whole;
-        state = c.in-Ok.ensures.1 ∙ ap (λ (s : Standing). state_after s entry) (ap (λ (k : Kept). k.state) c.self.view_is ∙ ready.state) ∙ sym (standing-push setup h entry);
+        state =
+            c.in-Ok.ensures.1 ∙ ap (λ (k : Kept). state_after (setup_of g.T.Planner.reads g.T.Planner.release_of g.T.Planner.inside k.state.limits) k.state entry) c.self.view_is ∙ sym same
+            ∙ ap (λ (s : Standing). state_after setup s entry) ready.state ∙ sym (standing-push setup h entry);
         most = c.write.ensures.most ∙ most;
         log = done;
         stands = stands-push setup s0.image s1.image h entry ready.stands follows.0 follows.1 (c.in-Ok-write.ensures.shelf ready.honest) (inr done.file);

@@ -1,16 +1,17 @@
-use Rattle.std.proofs.Common.{◌≡◌, ◌-◌, List, ◌++◌}
+use Rattle.std.proofs.Common.{◌≡◌, List, ◌++◌, drop}
 use Rattle.mail_plan.specs.declared.entry.Entry.{Entry}
 use Rattle.plant_dev.specs.Disk.{Stays}
 use Rattle.hub_core.specs.declared.limits.Limits.{Limits}
 use Rattle.hub_core.specs.Setup.{setup_of}
 use Rattle.queue_store.specs.Ready.{IsReady, Adds}
-use Rattle.queue_store.specs.Calls.{entries_all, entries_categorise}
+use Rattle.queue_store.specs.Calls.{entries_all}
 use Rattle.queue_store.proofs.hub.Hub.categorise_each.Given as goal
 
-abbrev pub invariant-loop-place : goal.invariant-loop-place
-invariant-loop-place g l = record {
-  goes : (limits : Limits) (h : List Entry) → IsReady (setup_of g.T.Planner.reads g.T.Planner.release_of limits) (g.P.Plant.state l.fn.plant) l.fn.self h →
-      (done : List Entry) × Adds (setup_of g.T.Planner.reads g.T.Planner.release_of limits) (g.P.Plant.state l.plant) l.self h done
-      × (done ++ entries_all (setup_of g.T.Planner.reads g.T.Planner.release_of limits) (l.count - l.place) l.self.state l.place ≡ entries_categorise (setup_of g.T.Planner.reads g.T.Planner.release_of limits) l.fn.self.state);
+abbrev pub invariant-loop-name : goal.invariant-loop-name
+invariant-loop-name g l = record {
+  goes : (limits : Limits) (h : List Entry) → IsReady (setup_of g.T.Planner.reads g.T.Planner.release_of g.T.Planner.inside limits) (g.P.Plant.state l.fn.plant) l.fn.self h →
+      (done : List Entry) × Adds (setup_of g.T.Planner.reads g.T.Planner.release_of g.T.Planner.inside limits) (g.P.Plant.state l.plant) l.self h done
+      × (done ++ entries_all (setup_of g.T.Planner.reads g.T.Planner.release_of g.T.Planner.inside limits) l.self.state (drop l.name-index l.names)
+      ≡ entries_all (setup_of g.T.Planner.reads g.T.Planner.release_of g.T.Planner.inside limits) l.fn.self.state l.names);
   stays : Stays (g.P.Plant.state l.fn.plant) (g.P.Plant.state l.plant);
 }

@@ -1,4 +1,4 @@
-use Rattle.std.proofs.Common.{◌≡◌, ap, ◌∙◌, sym}
+use Rattle.std.proofs.Common.{◌≡◌, refl, ap, ◌∙◌, sym}
 use Rattle.mail_plan.specs.declared.entry.Entry.TheVariants as entries
 use Rattle.hub_core.specs.declared.command.Reply.TheVariants as replies
 use Rattle.hub_core.specs.Setup.{Texts, setup_of}
@@ -11,7 +11,7 @@ use Rattle.queue_store.proofs.hub.Hub.change.Goals as goal
 
 pub returns-then-epoch-clause-adds : goal.returns-then-epoch-clause-adds
 returns-then-epoch-clause-adds g c limits h ready =
-    let setup = setup_of g.T.Planner.reads g.T.Planner.release_of limits in
+    let setup = setup_of g.T.Planner.reads g.T.Planner.release_of g.T.Planner.inside limits in
     let s = c.args.self.now.state in
     let org : Texts = record { directory = c.args.directory; rules = c.args.rules } in
     let read : Texts = record { directory = c.as_slice.result.now; rules = c.as_slice-2.result.now } in
@@ -24,7 +24,7 @@ returns-then-epoch-clause-adds g c limits h ready =
 
 pub returns-in-Ok-append-clause-adds : goal.returns-in-Ok-append-clause-adds
 returns-in-Ok-append-clause-adds g c limits h ready =
-    let setup = setup_of g.T.Planner.reads g.T.Planner.release_of limits in
+    let setup = setup_of g.T.Planner.reads g.T.Planner.release_of g.T.Planner.inside limits in
     let s = c.args.self.now.state in
     let org : Texts = record { directory = c.args.directory; rules = c.args.rules } in
     let read : Texts = record { directory = c.as_slice.result.now; rules = c.as_slice-2.result.now } in
@@ -35,4 +35,4 @@ returns-in-Ok-append-clause-adds g c limits h ready =
     let epoch = c.epoch.ensures ∙ ap (λ (k : Kept). k.state.epoch) c.self.view_is in
     let lawful = other_lawful setup s org c.in-Ok-epoch_of.epoch replied (λ now. c.if-epoch.false (now ∙ sym epoch)) in
     let stays = ap (λ (st : Standing). is_lawful setup st (entries.Organised org.directory org.rules)) (sym ready.state) ∙ lawful in
-    adds-along setup _ _ h _ _ (other_adds setup s org lawful) (c.in-Ok-append.ensures.adds setup h ready ((stays, tt), tt))
+    adds-along setup _ _ h _ _ (other_adds setup s org lawful) (c.in-Ok-append.ensures.adds setup h ready ((stays, tt), tt) refl)

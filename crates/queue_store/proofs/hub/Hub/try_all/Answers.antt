@@ -10,7 +10,7 @@ use Rattle.queue_store.proofs.hub.Hub.try_all.Goals as goal
 
 pub loop-name-init : goal.loop-name-init
 loop-name-init g c = record {
-  goes = λ setup h ready. ([], [], adds-none setup _ _ h [] refl ready, Tried-none _ _, omega arith);
+  goes = λ setup h ready. ([], [], adds-none setup _ _ h [] refl ready, Tried-none _ _ _, omega arith);
   stays = stays_not _;
 }
 
@@ -28,7 +28,7 @@ loop-name-preserved g c =
             so_far.0 ++ put ∷ [],
             so_far.1 ++ es,
             adds-joined setup _ _ _ _ h so_far.1 es so_far.2 one,
-            Tried-more _ _ so_far.0 so_far.1 _ c.loop-name.name-index none name put _ c.loop-name-test.true refl so_far.3 (state-goes setup _ _ _ _ (h ++ so_far.1) es so_far.2.ready one.ready),
+            Tried-more _ _ _ so_far.0 so_far.1 _ c.loop-name.name-index none name put _ c.loop-name-test.true refl so_far.3 (state-goes setup _ _ _ _ (h ++ so_far.1) es so_far.2.ready one.ready),
             misses-more so_far.0 put _ _ _ so_far.4 c.try_item.ensures.stays.shelf_faults (λ e. c.in-Ok.ensures.missed (ap Ok e)),
           );
       stays = stays_more _ _ _ now.stays c.try_item.ensures.stays;
@@ -37,7 +37,7 @@ loop-name-preserved g c =
 pub returns-clause-adds : goal.returns-clause-adds
 returns-clause-adds g c setup h ready =
     let so_far = c.loop-name.invariant.goes setup h ready in
-    let over = Tried-all _ _ so_far.0 so_far.1 _ _ (drop_all c.loop-name.name-index c.args.names.now c.loop-name-test.false) so_far.3 in
+    let over = Tried-all _ _ _ so_far.0 so_far.1 _ _ (drop_all c.loop-name.name-index c.args.names.now c.loop-name-test.false) so_far.3 in
     (so_far.0, adds-along setup _ _ h _ _ over so_far.2, so_far.4)
 
 pub returns-in-Err-clause-stops : goal.returns-in-Err-clause-stops
@@ -49,7 +49,7 @@ returns-in-Err-clause-stops g c setup h ready =
       | inl disk ↦ inl disk
       | inr declined ↦ inr (
         so_far.0 ++ true ∷ [],
-        stops-along setup _ _ h _ _ _ (Tried-stopped _ _ so_far.0 so_far.1 _ c.loop-name.name-index none name c.loop-name-test.true refl so_far.3)
+        stops-along setup _ _ h _ _ _ (Tried-stopped _ _ _ so_far.0 so_far.1 _ c.loop-name.name-index none name c.loop-name-test.true refl so_far.3)
             (stops-joined setup _ _ _ _ h so_far.1 (entries_try c.loop-name.self.state name true) [] _ so_far.2 (stops-first setup _ _ _ _ _ declined)),
         misses-more so_far.0 true _ _ _ so_far.4 c.try_item.ensures.stays.shelf_faults (λ e. absurd cc),
       )

@@ -12,7 +12,7 @@ abbrev pub invariant-loop-name : goal.invariant-loop-name
 invariant-loop-name g l = record {
   goes : (setup : Setup) (h : List Entry) → IsReady setup (g.P.Plant.state l.fn.plant) l.fn.self h →
       (puts : List Bool) × (done : List Entry) × Adds setup (g.P.Plant.state l.plant) l.self h done
-      × Tried l.fn.self.state l.names puts done l.self.state (drop l.name-index l.names)
+      × Tried setup l.fn.self.state l.names puts done l.self.state (drop l.name-index l.names)
       × RoseBy (misses puts) (g.P.Plant.state l.fn.plant).shelf_faults (g.P.Plant.state l.plant).shelf_faults;
   stays : Stays (g.P.Plant.state l.fn.plant) (g.P.Plant.state l.plant);
 }

@@ -26,7 +26,7 @@ returns-in-Ok-clause-adds g c setup h ready =
     let there = c.in-Ok-true.ensures.there ready.honest (ap Ok c.in-Ok-true.field-0-test) in
     let lawful = ap (λ (k : Kept). is_lawful setup k.state (entries.Delivered name)) (sym c.self.view_is) ∙ c.in-Some.ensures.waits refl in
     adds-along setup _ _ h _ _ (sym (ap (λ o. entries_put name o true) at))
-    (c.in-Ok.ensures.adds setup h mid (delivered_follows setup _ _ _ h name item ready mid at lawful there))
+    (c.in-Ok.ensures.adds setup h mid (delivered_follows setup _ _ _ h name item ready mid at lawful there) refl)
 
 pub returns-in-Err-append-clause-declines : goal.returns-in-Err-append-clause-declines
 returns-in-Err-append-clause-declines g c setup h ready =

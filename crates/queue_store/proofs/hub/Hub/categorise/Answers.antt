@@ -1,0 +1,58 @@
+use Rattle.std.proofs.Common.{◌≡◌, inl, inr, [], ◌∷◌, ap, ◌∙◌, sym, subst}
+use Rattle.std.specs.Prelude.{is_some, IfSome}
+use Rattle.std.specs.Arc.{arc_value}
+use Rattle.std.proofs.lemmas.Result.{on_ok_weaker}
+use Rattle.mail_plan.specs.declared.entry.Entry.TheVariants as entries
+use Rattle.mail_plan.specs.declared.release.Release.{Release}
+use Rattle.hub_core.specs.Setup.{setup_of, texts_of}
+use Rattle.hub_core.specs.Mail.{Mail, IsTask, is_uncategorised}
+use Rattle.hub_core.specs.Standing.{mail_of}
+use Rattle.queue_store.specs.Ready.{Kept}
+use Rattle.queue_store.specs.Calls.{entries_made, entries_at}
+use Rattle.queue_store.proofs.Stepping.{adds-along, declined-along, err_weaker}
+use Rattle.queue_store.proofs.Planning.{task_adds, held_of}
+use Rattle.queue_store.proofs.hub.Hub.categorise.Goals as goal
+
+pub returns-in-Ok-clause-adds : goal.returns-in-Ok-clause-adds
+returns-in-Ok-clause-adds g c limits h ready =
+    let setup = setup_of g.T.Planner.reads g.T.Planner.release_of g.T.Planner.inside limits in
+    let name = c.args.name.now in
+    let s = c.args.self.now.state in
+    let task = c.in-Ok-Some.task in
+    let input = task.input in
+    let org = texts_of g.T.Planner.directory_of g.T.Planner.rules_of (arc_value task.org) in
+    let wait =
+    sym (ap (λ o. is_some o) c.in-Ok-Some.field-0-is) ∙ c.in-Ok-Some.ensures.waits ∙ ap (λ (k : Kept). is_uncategorised (mail_of k.state name.submission) name.release) c.self.view_is in
+    let made = subst (λ (k : Kept). IfSome (mail_of k.state name.submission) (λ (mail : Mail). IsTask name.submission mail input org)) c.self.view_is
+    (held_of c.in-Ok-Some.field-0 task (λ t. IfSome (mail_of c.self.inside.state name.submission) (λ (mail : Mail). IsTask name.submission mail t.input (texts_of g.T.Planner.directory_of g.T.Planner.rules_of (arc_value t.org))))
+    c.in-Ok-Some.field-0-is c.in-Ok-Some.ensures.made) in
+    let release = held_of c.in-Ok-Some.field-0 task (λ t. t.input.release ≡ name.release) c.in-Ok-Some.field-0-is c.in-Ok-Some.ensures.release in
+    let own : entries.Categorised c.in-Ok.outcome.1.number c.in-Ok.outcome.1.release c.in-Ok.outcome.2 ∷ [] ≡ entries_made setup input org =
+    ap (λ (r : Release). entries.Categorised c.in-Ok.outcome.1.number c.in-Ok.outcome.1.release r ∷ []) (c.add_release.ensures.prescribed limits)
+    ∙ (λ i. entries_made setup (c.in-Ok.ensures i).1 (texts_of g.T.Planner.directory_of g.T.Planner.rules_of (c.in-Ok.ensures i).0)) in
+    let same : entries.Categorised c.in-Ok.outcome.1.number c.in-Ok.outcome.1.release c.in-Ok.outcome.2 ∷ [] ≡ entries_at setup s name = own ∙ task_adds setup s input org name wait made release in
+    on_ok_weaker c.add_release.result (λ done. adds-along setup _ _ h _ _ same done) (c.add_release.ensures.adds limits h ready)
+
+pub returns-in-Ok-clause-declines : goal.returns-in-Ok-clause-declines
+returns-in-Ok-clause-declines g c limits h ready =
+    let setup = setup_of g.T.Planner.reads g.T.Planner.release_of g.T.Planner.inside limits in
+    let name = c.args.name.now in
+    let s = c.args.self.now.state in
+    let task = c.in-Ok-Some.task in
+    let input = task.input in
+    let org = texts_of g.T.Planner.directory_of g.T.Planner.rules_of (arc_value task.org) in
+    let wait =
+    sym (ap (λ o. is_some o) c.in-Ok-Some.field-0-is) ∙ c.in-Ok-Some.ensures.waits ∙ ap (λ (k : Kept). is_uncategorised (mail_of k.state name.submission) name.release) c.self.view_is in
+    let made = subst (λ (k : Kept). IfSome (mail_of k.state name.submission) (λ (mail : Mail). IsTask name.submission mail input org)) c.self.view_is
+    (held_of c.in-Ok-Some.field-0 task (λ t. IfSome (mail_of c.self.inside.state name.submission) (λ (mail : Mail). IsTask name.submission mail t.input (texts_of g.T.Planner.directory_of g.T.Planner.rules_of (arc_value t.org))))
+    c.in-Ok-Some.field-0-is c.in-Ok-Some.ensures.made) in
+    let release = held_of c.in-Ok-Some.field-0 task (λ t. t.input.release ≡ name.release) c.in-Ok-Some.field-0-is c.in-Ok-Some.ensures.release in
+    let own : entries.Categorised c.in-Ok.outcome.1.number c.in-Ok.outcome.1.release c.in-Ok.outcome.2 ∷ [] ≡ entries_made setup input org =
+    ap (λ (r : Release). entries.Categorised c.in-Ok.outcome.1.number c.in-Ok.outcome.1.release r ∷ []) (c.add_release.ensures.prescribed limits)
+    ∙ (λ i. entries_made setup (c.in-Ok.ensures i).1 (texts_of g.T.Planner.directory_of g.T.Planner.rules_of (c.in-Ok.ensures i).0)) in
+    let same : entries.Categorised c.in-Ok.outcome.1.number c.in-Ok.outcome.1.release c.in-Ok.outcome.2 ∷ [] ≡ entries_at setup s name = own ∙ task_adds setup s input org name wait made release in
+    err_weaker _ _ c.add_release.result (λ e way. elim way [
+      | inl disk ↦ inl disk
+      | inr declined ↦ inr (declined-along setup _ _ h _ _ e same declined)
+    ])
+    (c.add_release.ensures.declines limits h ready)
