@@ -76,6 +76,7 @@ cut_finish h then now f f' turn puts s hub faults.NoMemory stops clock missed = 
 cut_finish h then now f f' turn puts s hub (faults.QueueFull live bytes) stops clock missed = absurd stops.why
 cut_finish h then now f f' turn puts s hub (faults.Org fault) stops clock missed = absurd stops.why
 cut_finish h then now f f' turn puts s hub (faults.EpochsFull live) stops clock missed = absurd stops.why
+cut_finish h then now f f' turn puts s hub faults.NoSuchApproval stops clock missed = absurd stops.why
 cut_finish h then now f f' turn puts s hub (faults.LogFull octets) stops clock missed =
     short_of h then now f f' turn puts s hub (faults.LogFull octets) Overfull stops (octets, stops.why) clock missed
 cut_finish h then now f f' turn puts s hub (faults.NotALog at) stops clock missed = absurd stops.why

@@ -24,7 +24,8 @@ use Rattle.transport_cli.specs.HubSetup.{hub_setup}
 
 -- All is categorised, and then comes a turn at this clock, in which the puts went so.
 abbrev pub entries_finish : Standing → ℕ → List Bool → List Entry
-entries_finish s clock puts = entries_categorise hub_setup s ++ entries_turn (after_entries s (entries_categorise hub_setup s)) clock puts
+entries_finish s clock puts =
+    entries_categorise hub_setup s ++ entries_turn hub_setup (after_entries hub_setup s (entries_categorise hub_setup s)) clock puts
 
 -- All was categorised and a turn was made: the image stands for the history with their entries, each of which had room
 -- in the log, and as many puts failed as the count of the shelf's faults rose at most.
@@ -65,13 +66,15 @@ Finishes h then now faults faults' image statuses.NoMemory = CutShort h then now
 Finishes h then now faults faults' image statuses.LogFull = CutShort h then now faults faults' image Overfull
 Finishes h then now faults faults' image status = ⊥
 
--- The status of a call that the hub refused. Only a submission meets a full queue, and no command has an organisation yet.
+-- The status of a call that the hub refused. Only a submission meets a full queue, and no command has an organisation or decides
+-- yet.
 abbrev pub refused : HubFault → Status
 refused faults.DiskFault = statuses.DiskFault
 refused faults.NoMemory = statuses.NoMemory
 refused (faults.QueueFull live bytes) = statuses.NoMemory
 refused (faults.Org fault) = statuses.NoMemory
 refused (faults.EpochsFull live) = statuses.NoMemory
+refused faults.NoSuchApproval = statuses.NoMemory
 refused (faults.LogFull octets) = statuses.LogFull
 refused (faults.NotALog at) = statuses.NotALog
 

@@ -19,7 +19,7 @@ const PEOPLE: &[u8] =
     b"key,kind,members,owners,moderated,moderators,bypass,tell\r\nexample.com,domain,,,no,,,always\r\nann@example.com,mailbox,,,no,,,always\r\nbob@example.com,mailbox,,,no,,,always\r\ncyn@example.com,mailbox,,,no,,,always\r\ndan@example.com,mailbox,,,no,,,always\r\nzed@example.net,contact,,,no,,,always\r\nstaff@example.com,group,ann@example.com cyn@example.com,,no,,,always\r\n";
 
 // Lets an organisation come into force on a plant.
-fn organise(
+pub fn organise(
     alloc: Global,
     plant: &mut MemoryPlant,
     directory: &[u8],
@@ -34,13 +34,26 @@ fn organise(
 }
 
 // Sends a message from ann to these recipients, in a session at 2026-03-01T00:00:00Z.
-fn send(
+pub fn send(
     alloc: Global,
     plant: &mut MemoryPlant,
     recipients: &[&str],
     message: &[u8],
 ) -> Result<Status, Fail> {
-    let mut input = Bytes::of(alloc, b"HELO c\r\nMAIL FROM:<ann@example.com>\r\n")?;
+    send_from(alloc, plant, "ann@example.com", recipients, message)
+}
+
+// The same from another sender.
+pub fn send_from(
+    alloc: Global,
+    plant: &mut MemoryPlant,
+    sender: &str,
+    recipients: &[&str],
+    message: &[u8],
+) -> Result<Status, Fail> {
+    let mut input = Bytes::of(alloc, b"HELO c\r\nMAIL FROM:<")?;
+    input.add(sender.as_bytes())?;
+    input.add(b">\r\n")?;
     for recipient in recipients {
         input.add(b"RCPT TO:<")?;
         input.add(recipient.as_bytes())?;
@@ -78,7 +91,7 @@ fn check_item<R: Abort>(
 }
 
 // Checks how many items a folder has.
-fn check_count<R: Abort>(
+pub fn check_count<R: Abort>(
     rt: &R,
     alloc: Global,
     plant: &mut MemoryPlant,

@@ -65,11 +65,13 @@ pub fn refused(fault: HubFault) -> Status
 {
     match fault {
         HubFault::DiskFault => Status::DiskFault,
-        // Only a submission meets a full queue, and it has a reply of its own. No command has an organisation yet.
+        // Only a submission meets a full queue, and it has a reply of its own. No command has an organisation or decides
+        // yet.
         HubFault::NoMemory
         | HubFault::QueueFull { .. }
         | HubFault::Org { .. }
-        | HubFault::EpochsFull { .. } => Status::NoMemory,
+        | HubFault::EpochsFull { .. }
+        | HubFault::NoSuchApproval => Status::NoMemory,
         HubFault::LogFull { .. } => Status::LogFull,
         HubFault::NotALog { .. } => Status::NotALog,
     }

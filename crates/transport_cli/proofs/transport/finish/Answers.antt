@@ -19,7 +19,7 @@ returns-in-Err-clause-finishes g c h ready quiet =
     elim (c.in-Err.ensures.stops usual h ready) [
       | inl disk ↦ absurd (quiet (c.in-Err.ensures.cause (ap Err disk)))
       | inr stops ↦ cut_status h _ _ _ _ 0 [] _ _ c.in-Err.fault _ c.refused.ensures.value
-          (stops-along hub_setup _ _ h _ _ _ (ap (λ (st : Standing). entries_finish st 0 []) ready.state) (stops-more hub_setup _ _ h es (entries_turn (after_entries s es) 0 []) _ stops))
+          (stops-along hub_setup _ _ h _ _ _ (ap (λ (st : Standing). entries_finish st 0 []) ready.state) (stops-more hub_setup _ _ h es (entries_turn hub_setup (after_entries hub_setup s es) 0 []) _ stops))
           (inl (λ k. refl)) (omega (arith, rise))
     ]
 
@@ -32,12 +32,12 @@ returns-in-Err-turn-clause-finishes g c h ready quiet =
     let first = c.categorise_all.ensures.stays in
     let rise = first.shelf_faults in
     let earlier = first.disk_faults in
-    elim (c.in-Err-turn.ensures.stops hub_setup (h ++ es) one.ready) [
+    elim (c.in-Err-turn.ensures.stops usual (h ++ es) one.ready) [
       | inl disk ↦ absurd (quiet (rose_within _ _ _ _ earlier (omega arith) (c.in-Err-turn.ensures.cause (ap Err disk))))
       | inr stops ↦
           let goes = state-goes hub_setup _ _ _ _ h es ready one.ready in
-          let whole : es ++ (entries_turn c.categorise_all.new.self.state turn stops.0 ++ []) ≡ entries_finish (standing hub_setup h) turn stops.0 =
-          ap (λ (xs : List Entry). es ++ xs) (append-nil _) ∙ ap (λ (st : Standing). es ++ entries_turn st turn stops.0) goes ∙ ap (λ (st : Standing). entries_finish st turn stops.0) ready.state in
+          let whole : es ++ (entries_turn hub_setup c.categorise_all.new.self.state turn stops.0 ++ []) ≡ entries_finish (standing hub_setup h) turn stops.0 =
+          ap (λ (xs : List Entry). es ++ xs) (append-nil _) ∙ ap (λ (st : Standing). es ++ entries_turn hub_setup st turn stops.0) goes ∙ ap (λ (st : Standing). entries_finish st turn stops.0) ready.state in
           let missed = stops.2 in
           cut_status h _ _ _ _ turn stops.0 _ _ c.in-Err-turn.fault _ c.refused-in-Err-turn.ensures.value
           (stops-along hub_setup _ _ h _ _ _ whole (stops-joined hub_setup _ _ _ _ h es _ [] _ one stops.1))
@@ -51,11 +51,11 @@ returns-in-Ok-turn-clause-finishes g c h ready quiet =
     let turn = c.now-turn.result in
     let one = c.in-Ok.ensures.adds usual h ready in
     let rise = c.categorise_all.ensures.stays.shelf_faults in
-    let tried = c.in-Ok-turn.ensures.adds hub_setup (h ++ es) one.ready in
+    let tried = c.in-Ok-turn.ensures.adds usual (h ++ es) one.ready in
     let missed = tried.2 in
     let goes = state-goes hub_setup _ _ _ _ h es ready one.ready in
-    let whole : es ++ entries_turn c.categorise_all.new.self.state turn tried.0 ≡ entries_finish (standing hub_setup h) turn tried.0 =
-    ap (λ (st : Standing). es ++ entries_turn st turn tried.0) goes ∙ ap (λ (st : Standing). entries_finish st turn tried.0) ready.state in
+    let whole : es ++ entries_turn hub_setup c.categorise_all.new.self.state turn tried.0 ≡ entries_finish (standing hub_setup h) turn tried.0 =
+    ap (λ (st : Standing). es ++ entries_turn hub_setup st turn tried.0) goes ∙ ap (λ (st : Standing). entries_finish st turn tried.0) ready.state in
     let all = adds-along hub_setup _ _ h _ _ whole (adds-joined hub_setup _ _ _ _ h es _ one tried.1) in
     record {
       turn = turn;
