@@ -1,13 +1,15 @@
 #!/usr/bin/env python3
 """Sends mail through the proved program in folders whose log begins with an organisation, and looks into the shelf.
 
-The entry by which the organisation comes into force is written here, octet for octet.
+The entries by which the organisation comes into force, a moderator decides and time passes are written here, octet for
+octet.
 """
 import pathlib
 import struct
 import subprocess
 import sys
 import tempfile
+import time
 
 ROOT = pathlib.Path(__file__).resolve().parent.parent
 PROGRAM = ROOT / "crates/transport_cli/out/transport_cli"
@@ -23,11 +25,31 @@ def organised(directory, rules):
     return record(b"\1" + texts)
 
 
+def decided(approval, key, verdict, moment):
+    """The record of a decision on the approval of this submission, release and gate."""
+    return record(b"\4" + struct.pack("<QIIQ", *approval, len(key)) + key + struct.pack("<BQ", verdict, moment))
+
+
+def turned(moment):
+    return record(b"\5" + struct.pack("<Q", moment))
+
+
+def append(folder, entry):
+    """Writes a record over the closed gate at the end of the log, and a closed gate behind it."""
+    path = pathlib.Path(folder, "hub/queue.log")
+    log = path.read_bytes()
+    assert log[-1] == 0
+    path.write_bytes(log[:-1] + entry + b"\0")
+
+
+def spoken(folder, said):
+    return subprocess.run([PROGRAM, "session"], input=said, capture_output=True, cwd=folder, timeout=60)
+
+
 def session(folder, sender, recipients, content):
     """Runs a session that sends one message."""
     envelope = b"MAIL FROM:<%s>\r\n" % sender + b"".join(b"RCPT TO:<%s>\r\n" % key for key in recipients)
-    sent = b"HELO c\r\n" + envelope + b"DATA\r\n" + content + b".\r\nQUIT\r\n"
-    return subprocess.run([PROGRAM, "session"], input=sent, capture_output=True, cwd=folder, timeout=60)
+    return spoken(folder, b"HELO c\r\n" + envelope + b"DATA\r\n" + content + b".\r\nQUIT\r\n")
 
 
 def shelf(folder):
@@ -55,9 +77,13 @@ def a_bad_organisation():
         return [] if run.returncode == 6 and run.stdout == b"" and path.read_bytes() == log else [f"a bad organisation: {run}"]
 
 
+def example_log():
+    return b"MAILHUB1" + organised((EXAMPLE / "directory.csv").read_bytes(), (EXAMPLE / "rules.toml").read_bytes()) + b"\0"
+
+
 def by_the_example():
     """The example organisation: mail from outside is marked, what leaves carries a disclaimer, and staff is a group."""
-    log = b"MAILHUB1" + organised((EXAMPLE / "directory.csv").read_bytes(), (EXAMPLE / "rules.toml").read_bytes()) + b"\0"
+    log = example_log()
     content = b"Message-Id: <m@example.net>\r\nSubject: Plan\r\n\r\nHello\r\n"
     run, items = sent_in(log, b"eve@example.net", [b"bob@example.com"], content)
     marked = content.replace(b"Plan", b"[outside] Plan")
@@ -71,10 +97,65 @@ def by_the_example():
     return faults + ([] if run.returncode == 0 and items == wanted else [f"to outside: {run} {items}"])
 
 
+MODERATED = b"Message-Id: <m@example.com>\r\nSubject: Plan\r\n\r\nHello\r\n"
+
+
+def behind_a_gate(sender, entry):
+    """What there is beside mia's request, once this entry is behind mail to the moderated group sub."""
+    with tempfile.TemporaryDirectory() as folder:
+        pathlib.Path(folder, "hub").mkdir()
+        pathlib.Path(folder, "hub/queue.log").write_bytes(example_log())
+        runs = [session(folder, sender, [b"sub@example.com"], MODERATED)]
+        held = set(shelf(folder))
+        append(folder, entry)
+        runs.append(spoken(folder, b"QUIT\r\n"))
+        items = shelf(folder)
+    faults = [f"{sender} {entry}: {run}" for run in runs if run.returncode != 0]
+    if held != {"mia@example.com/1-0-0.eml"} or items.pop("mia@example.com/1-0-0.eml", None) is None:
+        faults.append(f"{sender}: held {held}")
+    return items, faults
+
+
+def moderated():
+    """Mail to sub waits for mia: it goes to its members when she approves, and else those inside who sent it are told."""
+    faults = []
+    soon, late = int(time.time()) + 60, int(time.time()) + 172_860
+    both = {
+        "cyn@example.com/1-1-0.eml": MODERATED,
+        "zed@example.org/1-1-1.eml": MODERATED + b"This mail is meant for its recipients alone.\r\n",
+    }
+    items, seen = behind_a_gate(b"ann@example.com", decided((1, 0, 0), b"mia@example.com", 0, soon))
+    faults += seen + ([] if items == both else [f"approved: {items}"])
+    told = "ann@example.com/1-0-0-g.eml"
+    for entry, line in (
+        (decided((1, 0, 0), b"mia@example.com", 1, soon), b"was refused by mia@example.com."),
+        (turned(late), b"ran out at "),
+    ):
+        items, seen = behind_a_gate(b"ann@example.com", entry)
+        wanted = b"\r\nApproval 1-0-0 for object sub@example.com " + line
+        faults += seen + ([] if set(items) == {told} and wanted in items[told] else [f"{line}: {items}"])
+        items, seen = behind_a_gate(b"eve@example.net", entry)
+        faults += seen + ([] if items == {} else [f"told outside: {items}"])
+    return faults
+
+
+def strangers_decision():
+    """A decision that isn't a moderator's is no entry: the log is refused from its record on, and left as it was."""
+    with tempfile.TemporaryDirectory() as folder:
+        pathlib.Path(folder, "hub").mkdir()
+        path = pathlib.Path(folder, "hub/queue.log")
+        path.write_bytes(example_log())
+        session(folder, b"ann@example.com", [b"sub@example.com"], MODERATED)
+        append(folder, decided((1, 0, 0), b"bob@example.com", 0, int(time.time()) + 60))
+        log = path.read_bytes()
+        run = spoken(folder, b"QUIT\r\n")
+        return [] if run.returncode == 6 and path.read_bytes() == log else [f"a stranger's decision: {run}"]
+
+
 def main():
     if not PROGRAM.exists():
         sys.exit(f"organisations: {PROGRAM.relative_to(ROOT)} isn't built")
-    failures = a_bad_organisation() + by_the_example()
+    failures = a_bad_organisation() + by_the_example() + moderated() + strangers_decision()
     for failure in failures:
         print(f"organisations: {failure}")
     print(f"organisations: {'all as wanted' if not failures else f'{len(failures)} failed'}")
