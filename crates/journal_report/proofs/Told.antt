@@ -112,7 +112,7 @@ target_above line fits =
 clash : (b : Bool) → b ≡ true → b ≡ false → ⊥
 clash b p q = absurd cc
 
-target_next : (line : Line) (rest : List ℕ) → is_target (target_line line ++ rest) ≡ true
+pub target_next : (line : Line) (rest : List ℕ) → is_target (target_line line ++ rest) ≡ true
 unfolding target_line is_target
 target_next line rest = refl
 

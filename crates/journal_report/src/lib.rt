@@ -2,6 +2,7 @@
 #![tactic(auto)]
 
 mod cuts;
+pub mod laws;
 mod parts;
 mod reading;
 mod why;
