@@ -5,6 +5,7 @@ use Rattle.std.proofs.lemmas.Bool.Decides.{nat_tests}
 use Rattle.mail_names.specs.declared.gate.Gate.{Gate}
 use Rattle.mail_names.specs.declared.gate.Gate.TheVariants as gates
 use Rattle.journal_report.specs.declared.why.Why.TheVariants as whys
+use Rattle.journal_rules.specs.declared.taking.Taken.{Taken}
 use Rattle.org_directory.specs.Register.{Register}
 use Rattle.rule_terms.specs.declared.rule.Rule.{Rule}
 use Rattle.mail_plan.specs.declared.release.Hold.{Hold}
@@ -17,7 +18,7 @@ use Rattle.categorizer.specs.declared.parts.Letter.{Letter}
 use Rattle.categorizer.specs.declared.parts.Loss.{Loss}
 use Rattle.categorizer.specs.declared.parts.Send.{Send}
 use Rattle.categorizer.specs.Plan.{is_target, with_send, firsts}
-use Rattle.categorizer.specs.Releasing.{items_from, version_of, request_to, text_at, asked, with_request, with_requests, notice_of, with_notice, with_notices, with_told, drafts_of, hold_of}
+use Rattle.categorizer.specs.Releasing.{items_from, version_of, request_to, text_at, asked, with_request, with_requests, notice_of, with_notice, with_notices, with_told, report_at, with_reports, drafts_of, hold_of}
 use Rattle.categorizer.proofs.Lists.{is_opened, same_bytes, bytes_same, or_left, or_right, or_map, is_target-append}
 use Rattle.categorizer.proofs.Naming.{and_true, and_parts, of_not, false_of, distinct-fold}
 
@@ -79,11 +80,19 @@ told-targets : (letter : Letter) (sender : Option (List ℕ)) (drafts : List Dra
 told-targets letter None drafts losses = refl
 told-targets letter (Some to) drafts losses = notices-targets letter to drafts losses
 
+reports-targets : (letter : Letter) (sender : Option (List ℕ)) (sends : List Send) (drafts : List Draft) (all : List Taken) → draft_targets (with_reports letter sender sends drafts all) ≡ draft_targets drafts
+reports-targets letter sender sends drafts [] = refl
+reports-targets letter sender sends drafts (taken ∷ others) =
+    reports-targets letter sender sends (drafts ++ report_at letter sender sends (length drafts) taken ∷ []) others
+    ∙ behind-none drafts (report_at letter sender sends (length drafts) taken ∷ []) refl
+
 -- the targets of a release are those of its new sends
-pub all-targets : (letter : Letter) (sender : Option (List ℕ)) (content : Content) → draft_targets (drafts_of letter sender content) ≡ map send_target content.sent
-all-targets letter sender content =
-    told-targets letter sender (with_requests letter (map version_of content.sent) 0 content.holds) content.losses
-    ∙ (requests-targets letter (map version_of content.sent) 0 content.holds ∙ versions-targets content.sent)
+pub all-targets : (letter : Letter) (sender : Option (List ℕ)) (taken : List Taken) (content : Content) → draft_targets (drafts_of letter sender taken content) ≡ map send_target content.sent
+all-targets letter sender taken content =
+    let reported : List Draft = with_reports letter sender content.sent (map version_of content.sent) taken in
+    told-targets letter sender (with_requests letter reported 0 content.holds) content.losses
+    ∙ (requests-targets letter reported 0 content.holds
+    ∙ (reports-targets letter sender content.sent (map version_of content.sent) taken ∙ versions-targets content.sent))
 
 pub among-target : (sends : List Send) (target : List ℕ) → is_among target (map send_target sends) ≡ is_target sends target
 among-target [] target = refl

@@ -7,6 +7,7 @@ use Rattle.group_expand.specs.Routes.{too_many, closed_met, all_ways}
 use Rattle.group_expand.specs.Ways.{fresh}
 use Rattle.group_expand.specs.declared.way.Way.{Way}
 use Rattle.group_expand.proofs.Growth.{first-filter}
+use Rattle.journal_rules.specs.declared.taking.Taken.{Taken}
 use Rattle.rule_terms.specs.Forms.{is_rule}
 use Rattle.rule_engine.specs.Run.{distinct}
 use Rattle.mail_plan.specs.Planning.{Input, Continues, is_among, are_distinct, is_gate_among, are_distinct_gates, targets, gates_of, are_named, use_texts, have_moderators, is_release}
@@ -19,7 +20,7 @@ use Rattle.mail_plan.specs.Base.{base_message}
 use Rattle.categorizer.specs.Growth.{ExpansionGrows, PlanGrows}
 use Rattle.categorizer.specs.Organisation.{Organisation, organisation_of}
 use Rattle.categorizer.specs.Plan.{Case, plan, plan_before, gates_before, news, is_target, firsts, kept, beside, judged_in, closed_gates, held_rules, is_new_gate}
-use Rattle.categorizer.specs.Releasing.{draft_texts, items_from, release_from, drafts_of, letter_of, content, content_of, too_many_content, unknown_now, hold_of, case_of, hub_release}
+use Rattle.categorizer.specs.Releasing.{draft_texts, items_from, release_from, drafts_of, journaled, letter_of, content, content_of, too_many_content, unknown_now, hold_of, case_of, hub_release}
 use Rattle.categorizer.proofs.Books.{IsRead, is-read}
 use Rattle.categorizer.proofs.Differing.{send_target, draft_targets, targets-drafts, all-targets, among-target, firsts-distinct, filter-within, filter-distinct, left-out, gates-held, gate-within, gate-distinct, gate-out}
 use Rattle.categorizer.proofs.Expanding.{opens-more, expands}
@@ -45,8 +46,11 @@ case_in org input = case_at org input.number input.accepted_at input.submission
 abbrev content_in : Organisation → Input → Content
 content_in org input = content (case_in org input) input.before input.opened
 
+abbrev taken_in : Organisation → Input → List Taken
+taken_in org input = journaled org input.submission.reverse (content_in org input).sent
+
 abbrev drafts_in : Organisation → Input → List Draft
-drafts_in org input = drafts_of (letter_of input (base_message input.number input.submission.bytes)) input.submission.reverse (content_in org input)
+drafts_in org input = drafts_of (letter_of input (base_message input.number input.submission.bytes)) input.submission.reverse (taken_in org input) (content_in org input)
 
 -- the form
 lawful-from : (number release : ℕ) (drafts : List Draft) (those : Content) → have_moderators those.holds ≡ true → is_release number release (release_from number release drafts those) ≡ true
@@ -96,7 +100,7 @@ own_texts org directory those h =
 release-targets : (org : Organisation) (input : Input) → targets (hub_release org input).items ≡ map send_target (content_in org input).sent
 release-targets org input =
     targets-drafts input.number input.release 0 (distinct (draft_texts (drafts_in org input))) (drafts_in org input)
-    ∙ all-targets (letter_of input (base_message input.number input.submission.bytes)) input.submission.reverse (content_in org input)
+    ∙ all-targets (letter_of input (base_message input.number input.submission.bytes)) input.submission.reverse (taken_in org input) (content_in org input)
 
 sent-distinct : (case : Case) (before : Option (List Gate)) (opened : List Gate) → are_distinct (map send_target (content case before opened).sent) ≡ true
 sent-distinct case before opened = at case.too_many before

@@ -2,10 +2,13 @@ pub mod Books
 pub mod Differing
 pub mod Expanding
 pub mod First
+pub mod Grouping
 pub mod Growing
 pub mod Holding
+pub mod Journaling
 pub mod Keeping
 pub mod Lists
 pub mod Meeting
 pub mod Naming
 pub mod Reading
+pub mod Reporting

@@ -5,7 +5,12 @@ use Rattle.mail_names.specs.declared.gate.Gate.TheVariants as gates
 use Rattle.mail_names.specs.declared.name.ItemName.{ItemName}
 use Rattle.mail_names.specs.declared.name.Mark.TheVariants as marks
 use Rattle.mail_message.specs.Message.{Mail}
+use Rattle.journal_report.specs.Report.{report_text}
+use Rattle.journal_report.specs.declared.parts.Line.{Line}
+use Rattle.journal_report.specs.declared.parts.ReportHead.{ReportHead}
 use Rattle.journal_report.specs.declared.why.Why.TheVariants as whys
+use Rattle.journal_rules.specs.Taking.{is_taken, takings}
+use Rattle.journal_rules.specs.declared.taking.Taken.{Taken}
 use Rattle.org_directory.specs.Register.{Register, object_of, keys_at}
 use Rattle.org_directory.specs.declared.object.Object.{Object}
 use Rattle.org_directory.specs.declared.object.Tell.{Tell}
@@ -151,6 +156,45 @@ version_of send = record { folder = send.target; kind = kinds.Version; why = sen
 abbrev pub request_to : List ℕ → List ℕ → Draft
 request_to text moderator = record { folder = moderator; kind = kinds.Request; why = whys.Direct; text = text }
 
+-- a version, as a report lists it
+abbrev pub line_of : Send → Line
+line_of send = record { target = send.target; why = send.why }
+
+abbrev pub line_at : Option Send → List Line
+line_at None = []
+line_at (Some send) = line_of send ∷ []
+
+-- the versions at these places
+abbrev pub lines_at : List Send → List ℕ → List Line
+lines_at sends [] = []
+lines_at sends (place ∷ places) = line_at (slice_get sends place) ++ lines_at sends places
+
+-- the head of the report to a mailbox, which has the name of this place
+abbrev pub head_at : Letter → Option (List ℕ) → ℕ → List ℕ → ReportHead
+head_at letter sender place mailbox = record {
+  name = name_at letter.about.number letter.release place;
+  moment = letter.made;
+  mailbox = mailbox;
+  sender = sender;
+  message_id = letter.about.message_id;
+  subject = letter.about.subject;
+}
+
+-- the report of what a mailbox takes of the versions, with the message before rules
+abbrev pub report_at : Letter → Option (List ℕ) → List Send → ℕ → Taken → Draft
+report_at letter sender sends place taken = record {
+  folder = taken.mailbox;
+  kind = kinds.Report;
+  why = whys.Direct;
+  text = report_text (head_at letter sender place taken.mailbox) (lines_at sends taken.targets) letter.about.original;
+}
+
+-- behind the drafts a report to each of these mailboxes
+abbrev pub with_reports : Letter → Option (List ℕ) → List Send → List Draft → List Taken → List Draft
+with_reports letter sender sends drafts [] = drafts
+with_reports letter sender sends drafts (taken ∷ others) =
+    with_reports letter sender sends (drafts ++ report_at letter sender sends (length drafts) taken ∷ []) others
+
 -- An approval is asked for within two days.
 abbrev pub asked : Letter → ℕ → Hold → Notice
 asked letter gate hold =
@@ -179,10 +223,11 @@ abbrev pub with_told : Letter → Option (List ℕ) → List Draft → List Loss
 with_told letter None drafts those = drafts
 with_told letter (Some to) drafts those = with_notices letter to drafts those
 
--- The parts of a release in order: versions, requests, notices.
-abbrev pub drafts_of : Letter → Option (List ℕ) → Content → List Draft
-drafts_of letter sender content =
-    with_told letter sender (with_requests letter (map version_of content.sent) 0 content.holds) content.losses
+-- The parts of a release in order: versions, reports, requests, notices.
+abbrev pub drafts_of : Letter → Option (List ℕ) → List Taken → Content → List Draft
+drafts_of letter sender taken content =
+    with_told letter sender
+    (with_requests letter (with_reports letter sender content.sent (map version_of content.sent) taken) 0 content.holds) content.losses
 
 abbrev pub draft_texts : List Draft → List (List ℕ)
 draft_texts drafts = map (λ (draft : Draft). draft.text) drafts
@@ -223,11 +268,24 @@ letter_of input message = record {
   made = input.made;
 }
 
+-- A journaling mailbox takes a target of mail of a sender.
+abbrev pub takes : Organisation → Option (List ℕ) → List ℕ → List ℕ → Bool
+takes org sender mailbox target = is_taken org.register sender org.book.journals mailbox target
+
+-- the mailboxes that take some of these versions, each with all that it takes
+abbrev pub journaled : Organisation → Option (List ℕ) → List Send → List Taken
+journaled org sender sends = takings org.register sender org.book.journals (map (λ (send : Send). send.target) sends)
+
+-- the release of what is new
+abbrev pub release_with : Organisation → Input → Letter → Content → Release
+release_with org input letter here =
+    release_from input.number input.release
+    (drafts_of letter input.submission.reverse (journaled org input.submission.reverse here.sent) here) here
+
 -- the release of a message before rules
 abbrev pub release_of : Organisation → Input → Mail → Release
 release_of org input message =
-    let here : Content = content (case_of org input message) input.before input.opened in
-    release_from input.number input.release (drafts_of (letter_of input message) input.submission.reverse here) here
+    release_with org input (letter_of input message) (content (case_of org input message) input.before input.opened)
 
 -- what an organisation prescribes for a release
 abbrev pub hub_release : Organisation → Input → Release

@@ -4,7 +4,7 @@ ghost use Rattle.std.specs.Prelude.{◌≡◌, IfOk};
 use crate::parts::{Rejection, Send};
 use group_expand::Leaf;
 use journal_report::Why;
-use mail_names::{Bytes, Gate, Items, Key, NoMemory};
+use mail_names::{Bytes, Items, Key, NoMemory};
 use std::alloc::Global;
 
 pub fn copied_keys(alloc: Global, keys: &[Key]) -> Result<Items<Key>, NoMemory>
@@ -27,17 +27,6 @@ pub fn copied_why(alloc: Global, why: &Why) -> Result<Why, NoMemory>
         }),
         Why::Copied { rule } => Ok(Why::Copied { rule: *rule }),
         Why::Redirected { rule } => Ok(Why::Redirected { rule: *rule }),
-    }
-}
-
-pub fn copied_gate(alloc: Global, gate: &Gate) -> Result<Gate, NoMemory>
-    ensures { IfOk result (λ copied. copied ≡ gate.now) }
-{
-    match gate {
-        Gate::Object { key } => Ok(Gate::Object {
-            key: key.copy(alloc)?,
-        }),
-        Gate::Rule { place } => Ok(Gate::Rule { place: *place }),
     }
 }
 

@@ -1,10 +1,12 @@
-// The items of a release before they have names: versions, requests, notices.
+// The items of a release before they have names: versions, reports, requests, notices.
 ghost use Rattle.std.specs.Prelude.{◌≡◌, ◌≤◌, ◌++◌, ◌∷◌, [], length, map, option_copied, IfOk, OnOk};
 ghost use Rattle.categorizer.specs.Releasing.{name_at, text_at, version_of, request_to, asked, with_request, with_requests, notice_of, with_notice, with_notices, with_told, drafts_of};
 
 use crate::copies::{copied_keys, copied_why};
 use crate::parts::{Content, Draft, Letter, Loss, Send};
+use crate::reports::add_reports;
 use journal_report::Why;
+use journal_rules::Taken;
 use mail_names::{ApprovalName, Bytes, ItemName, Items, Key, LAST_MOMENT, Mark, NoMemory};
 use mail_notices::{Notice, notice};
 use mail_plan::{Hold, ItemKind};
@@ -209,17 +211,20 @@ fn add_told(
     }
 }
 
-/// The items of a release, in order.
+/// The items of a release, in order, with a report to each of these mailboxes.
 pub fn drafts_of(
     alloc: Global,
     letter: &Letter,
     sender: Option<&Key>,
+    taken: &[Taken],
     content: &Content,
 ) -> Result<Items<Draft>, NoMemory>
     requires { letter.now.made ≤ LAST_MOMENT }
-    ensures { IfOk result (λ drafts. drafts ≡ drafts_of letter.now (option_copied sender.entry) content.now) }
+    ensures { IfOk result (λ drafts. drafts ≡ drafts_of letter.now (option_copied sender.entry) taken.now content.now) }
 {
-    let mut drafts = versions(alloc, content.sent.as_slice())?;
+    let sends = content.sent.as_slice();
+    let mut drafts = versions(alloc, sends)?;
+    add_reports(alloc, letter, sender, sends, &mut drafts, taken)?;
     add_requests(alloc, letter, &mut drafts, content.holds.as_slice())?;
     add_told(
         alloc,

@@ -3,9 +3,9 @@ ghost use Rattle.std.specs.Prelude.{◌≡◌, ◌<◌, All, length, slice_get, 
 ghost use Rattle.org_directory.specs.Register.{object_of, keys_at, InRange};
 ghost use Rattle.categorizer.specs.Releasing.{approvers, rule_approvers, rule_name, object_approvers, object_tell, object_label, rule_label, hold_of};
 
-use crate::copies::{copied_gate, copied_keys};
+use crate::copies::copied_keys;
 use mail_names::{Bytes, Gate, Items, Key, NoMemory};
-use mail_plan::Hold;
+use mail_plan::{Hold, copied_gate};
 use org_directory::{Directory, Object, Tell};
 use rule_terms::{Action, Rule};
 use std::alloc::Global;

@@ -1,12 +1,13 @@
 // What holds of releases.
 ghost use Rattle.std.specs.Prelude.{◌≡◌, ◌++◌, ℕ, List, Ok, true, false};
 ghost use Rattle.mail_names.specs.declared.gate.Gate.{Gate};
-ghost use Rattle.mail_plan.specs.Planning.{Input, Continues, is_release, is_among, are_distinct, is_gate_among, are_distinct_gates, targets, gates_of};
+ghost use Rattle.mail_plan.specs.Entries.{IsRelease};
+ghost use Rattle.mail_plan.specs.Planning.{Input, IsInput, Continues, Reports, is_release, is_among, are_distinct, is_gate_among, are_distinct_gates, targets, gates_of};
 ghost use Rattle.categorizer.specs.Organisation.{Organisation, organisation_of};
 ghost use Rattle.mail_plan.specs.Base.{base_message};
 ghost use Rattle.categorizer.specs.Growth.{PlanGrows};
 ghost use Rattle.categorizer.specs.Plan.{plan};
-ghost use Rattle.categorizer.specs.Releasing.{case_of, hub_release};
+ghost use Rattle.categorizer.specs.Releasing.{takes, case_of, hub_release};
 
 /// The release of an organisation that was read has the form of one.
 pub fn releases_have_their_form()
@@ -41,4 +42,11 @@ pub fn plans_grow()
     ensures { (org : Organisation) (input : Input) (opened more : List Gate) → PlanGrows (opened ++ more)
         (plan (case_of org input (base_message input.number input.submission.bytes)) opened)
         (plan (case_of org input (base_message input.number input.submission.bytes)) (opened ++ more)) }
+{}
+
+/// Each mailbox that takes a version of a release gets one report of it, which lists exactly the versions that it takes, in
+/// their order. The release is one that an entry can hold.
+pub fn reports_list_what_is_taken()
+    ensures { (org : Organisation) (input : Input) → IsInput input → IsRelease (hub_release org input) →
+        Reports (takes org input.submission.reverse) (hub_release org input) }
 {}

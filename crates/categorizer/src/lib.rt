@@ -14,7 +14,11 @@ mod numbering;
 mod org;
 mod parts;
 mod planning;
+mod reports;
 mod sends;
 
 pub use making::release;
 pub use org::HubOrg;
+
+#[cfg(test)]
+mod tests;

@@ -9,6 +9,7 @@ use crate::drafts::drafts_of;
 use crate::letter::letter_of;
 use crate::numbering::numbered;
 use crate::parts::{Content, Draft, Loss};
+use crate::reports::journaled;
 use mail_message::Message;
 use mail_names::{Items, NoMemory};
 use mail_plan::{End, Release, ReleaseInput};
@@ -74,7 +75,8 @@ fn release_of(
     let letter = letter_of(alloc, input, message)?;
     let content = content_of(alloc, org, input, message)?;
     let sender = input.submission().reverse();
-    let drafts = drafts_of(alloc, &letter, sender, &content)?;
+    let taken = journaled(alloc, org, sender, content.sent.as_slice())?;
+    let drafts = drafts_of(alloc, &letter, sender, taken.as_slice(), &content)?;
     release_from(
         alloc,
         input.number(),
@@ -85,7 +87,8 @@ fn release_of(
 }
 
 /// What the organisation prescribes for a release of a submission: the versions, requests and notices that are new with
-/// the gates opened, the gates that are newly met, and who gets nothing.
+/// the gates opened, reports of these versions to the mailboxes that take them, the gates that are newly met, and who
+/// gets nothing.
 pub fn release(alloc: Global, org: &HubOrg, input: &ReleaseInput) -> Result<Release, NoMemory>
     ensures { IfOk result (λ made. made ≡ hub_release org.now input.now) }
 {

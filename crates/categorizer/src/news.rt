@@ -1,25 +1,16 @@
 // What a plan has and the one before it has not.
 ghost use Rattle.std.specs.Prelude.{◌≡◌, [], not, IfOk, filter};
-ghost use Rattle.mail_plan.specs.Planning.{same_gate, is_gate_among};
+ghost use Rattle.mail_plan.specs.Planning.{is_gate_among};
 ghost use Rattle.categorizer.specs.declared.parts.Rejection.{Rejection};
 ghost use Rattle.categorizer.specs.declared.parts.Send.{Send};
 ghost use Rattle.categorizer.specs.Plan.{is_target, is_rejected, is_new_gate, difference};
 
-use crate::copies::{copied_gate, copied_rejection, copied_send};
+use crate::copies::{copied_rejection, copied_send};
 use crate::parts::{Plan, Rejection, Send};
 use crate::sends::is_target;
 use mail_names::{Gate, Items, Key, NoMemory};
+use mail_plan::{copied_gate, same_gate};
 use std::alloc::Global;
-
-fn same_gate(gate: &Gate, other: &Gate) -> bool
-    ensures { result ≡ same_gate gate.now other.now }
-{
-    match (gate, other) {
-        (Gate::Object { key }, Gate::Object { key: other }) => *key == *other,
-        (Gate::Rule { place }, Gate::Rule { place: other }) => *place == *other,
-        _ => false,
-    }
-}
 
 fn is_among(gate: &Gate, gates: &[Gate]) -> bool
     ensures { result ≡ is_gate_among gate.now gates.now }

@@ -66,7 +66,7 @@ pub struct Content {
     pub losses: Items<Loss>,
 }
 
-/// What the requests and notices of a release share: what they are about, the release, and the moment at which it is
+/// What the reports, requests and notices of a release share: what they are about, the release, and the moment at which it is
 /// made, in seconds since 1970-01-01T00:00:00Z.
 #[derive(Drop)]
 pub struct Letter {

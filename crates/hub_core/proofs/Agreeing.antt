@@ -408,7 +408,7 @@ input-is : (setup : Setup) (n m : ℕ) (mail : Mail) (r : ℕ) (org : Texts) (a 
 input-is setup n m mail r org a is same =
     λ i. setup.release_of (same i) (input_at (first_input n (is.epoch i) (is.moment i) (is.submission i)) (is.opened i) r)
 
-waits-low : (stages : List Stage) (r : ℕ) (at : Option Stage) → slice_get stages r ≡ at → waits_in at ≡ true → (stage : Stage) × (slice_get stages r ≡ Some stage)
+pub waits-low : (stages : List Stage) (r : ℕ) (at : Option Stage) → slice_get stages r ≡ at → waits_in at ≡ true → (stage : Stage) × (slice_get stages r ≡ Some stage)
 waits-low stages r None e h = absurd (cc)
 waits-low stages r (Some stage) e h = (stage, e)
 

@@ -21,3 +21,7 @@ pub mod Deciding
 pub mod Telling
 pub mod Judging
 pub mod Tasks
+mod Reporting
+mod Planned
+mod Categorised
+mod Journaled

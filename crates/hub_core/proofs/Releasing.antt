@@ -1,5 +1,5 @@
 -- What the planner's laws say of the setup of a hub.
-use Rattle.std.proofs.Common.{◌≡◌, ℕ, zero, suc, Bool, true, List, [], ◌++◌, refl, ap, ◌∙◌, Result, Ok, Err}
+use Rattle.std.proofs.Common.{◌≡◌, ℕ, zero, suc, Bool, true, List, [], ◌++◌, refl, ap, ◌∙◌, Option, Result, Ok, Err}
 use Rattle.mail_plan.specs.Planning.{Input, Opening, is_release, are_distinct, all_targets}
 use Rattle.mail_plan.specs.declared.planner.OrgFault.{OrgFault}
 use Rattle.mail_plan.specs.declared.release.Release.{Release}
@@ -18,15 +18,15 @@ pub targets-read : {Org : Type 0} (release_of : Org → Input → Release) →
 targets-read release_of once (Ok org) base opened count = once org base opened count
 targets-read release_of once (Err fault) base opened count = ap are_distinct (no-targets base opened count)
 
-module _ {Org : Type 0} (reads : List ℕ → List ℕ → Result Org OrgFault) (directory_of rules_of : Org → List ℕ) (release_of : Org → Input → Release) (inside : Org → List ℕ → Bool) where
+module _ {Org : Type 0} (reads : List ℕ → List ℕ → Result Org OrgFault) (directory_of rules_of : Org → List ℕ) (release_of : Org → Input → Release) (inside : Org → List ℕ → Bool) (takes : Org → Option (List ℕ) → List ℕ → List ℕ → Bool) where
   -- the release that an organisation prescribes is that of its texts
   pub release-own : (limits : Limits) (org : Org) (input : Input) → reads (directory_of org) (rules_of org) ≡ Ok org →
-      (setup_of reads release_of inside limits).release_of (texts_of directory_of rules_of org) input ≡ release_of org input
+      (setup_of reads release_of inside takes limits).release_of (texts_of directory_of rules_of org) input ≡ release_of org input
   release-own limits org input own = ap (λ (read : Result Org OrgFault). release_in release_of read input) own
 
   -- who is inside it is inside that of its texts
   pub inside-own : (limits : Limits) (org : Org) (key : List ℕ) → reads (directory_of org) (rules_of org) ≡ Ok org →
-      (setup_of reads release_of inside limits).inside (texts_of directory_of rules_of org) key ≡ inside org key
+      (setup_of reads release_of inside takes limits).inside (texts_of directory_of rules_of org) key ≡ inside org key
   inside-own limits org key own = ap (λ (read : Result Org OrgFault). inside_in inside read key) own
 
   read-lawful : ((org : Org) (directory rules : List ℕ) → reads directory rules ≡ Ok org → (directory_of org ≡ directory) × (rules_of org ≡ rules)) →
@@ -39,5 +39,5 @@ module _ {Org : Type 0} (reads : List ℕ → List ℕ → Result Org OrgFault) 
 
   pub are-releases : ((org : Org) (directory rules : List ℕ) → reads directory rules ≡ Ok org → (directory_of org ≡ directory) × (rules_of org ≡ rules)) →
       ((org : Org) (input : Input) → reads (directory_of org) (rules_of org) ≡ Ok org → is_release input.number input.release (release_of org input) ≡ true) →
-      (limits : Limits) → AreReleases (setup_of reads release_of inside limits)
+      (limits : Limits) → AreReleases (setup_of reads release_of inside takes limits)
   are-releases own lawful limits texts input = read-lawful own lawful texts input (reads texts.directory texts.rules) refl

@@ -75,7 +75,7 @@ expired-ends : (b : Bool) (state : ApprovalState) → b ≡ true → is_pending 
 expired-ends true state e = refl
 expired-ends false state e = absurd (cc)
 
-freed-stages : (mail : Mail) → (freed mail).stages ≡ mail.stages
+pub freed-stages : (mail : Mail) → (freed mail).stages ≡ mail.stages
 freed-stages mail = by (list_any stage_open mail.stages)
   where
     by : (b : Bool) → (cond b mail (record mail { org = None })).stages ≡ mail.stages
@@ -85,7 +85,7 @@ freed-stages mail = by (list_any stage_open mail.stages)
 freed-done : (mail : Mail) (r g : ℕ) → Done mail.stages r g → Done (freed mail).stages r g
 freed-done mail r g done = subst (λ (stages : List Stage). Done stages r g) (sym (freed-stages mail)) done
 
-some_waits : (asks : List Asking) (at : Option Stage) → at ≡ Some (Some asks) → waits_in at ≡ true → ⊥
+pub some_waits : (asks : List Asking) (at : Option Stage) → at ≡ Some (Some asks) → waits_in at ≡ true → ⊥
 some_waits asks at e h = absurd (no (sym (ap waits_in e) ∙ h))
   where
     no : false ≡ true → ⊥

@@ -1,5 +1,5 @@
 -- The approvals that releases ask for.
-use Rattle.std.specs.Prelude.{ℕ, Bool, true, false, List, [], ◌∷◌, map, slice_get, slice_set, Option, Some, None}
+use Rattle.std.specs.Prelude.{ℕ, Bool, true, false, List, [], map, slice_get, slice_set, Option, Some, None}
 use Rattle.std.specs.List.{list_any}
 use Rattle.moderation.specs.Approval.{asked, decided, is_pending, expired}
 use Rattle.moderation.specs.declared.approval.Verdict.{Verdict}

@@ -2,6 +2,7 @@ pub mod Approvals
 pub mod Differing
 pub mod Ending
 pub mod Items
+pub mod Journal
 pub mod Mail
 pub mod Repeats
 pub mod Replies

@@ -17,13 +17,14 @@ texts_of directory_of rules_of org = record { directory = directory_of org; rule
 abbrev pub first_org : Texts
 first_org = record { directory = first_directory; rules = [] }
 
--- the limits, the fault of texts that are no organisation's, and of the organisation of texts the release of an input, and
--- who is inside
+-- the limits, the fault of texts that are no organisation's, and of the organisation of texts the release of an input, who is
+-- inside, and which targets of a sender's mail a journaling mailbox takes
 pub record Setup : Type 0 where
   pub limits : Limits
   pub fault_of : Texts → Option OrgFault
   pub release_of : Texts → Input → Release
   pub inside : Texts → List ℕ → Bool
+  pub takes : Texts → Option (List ℕ) → List ℕ → List ℕ → Bool
 
 abbrev pub no_release : Release
 no_release = record { texts = []; items = []; holds = []; ends = [] }
@@ -40,11 +41,16 @@ abbrev pub inside_in : {Org : Type 0} → (Org → List ℕ → Bool) → Result
 inside_in inside (Ok org) key = inside org key
 inside_in inside (Err fault) key = false
 
--- the setup of a hub over a planner that reads organisations, makes releases and knows who is inside so
-abbrev pub setup_of : {Org : Type 0} → (List ℕ → List ℕ → Result Org OrgFault) → (Org → Input → Release) → (Org → List ℕ → Bool) → Limits → Setup
-setup_of reads release_of inside limits = record {
+abbrev pub takes_in : {Org : Type 0} → (Org → Option (List ℕ) → List ℕ → List ℕ → Bool) → Result Org OrgFault → Option (List ℕ) → List ℕ → List ℕ → Bool
+takes_in takes (Ok org) sender mailbox target = takes org sender mailbox target
+takes_in takes (Err fault) sender mailbox target = false
+
+-- the setup of a hub over a planner that reads organisations, makes releases, and knows who is inside and what is taken so
+abbrev pub setup_of : {Org : Type 0} → (List ℕ → List ℕ → Result Org OrgFault) → (Org → Input → Release) → (Org → List ℕ → Bool) → (Org → Option (List ℕ) → List ℕ → List ℕ → Bool) → Limits → Setup
+setup_of reads release_of inside takes limits = record {
   limits = limits;
   fault_of = λ texts. fault_in (reads texts.directory texts.rules);
   release_of = λ texts input. release_in release_of (reads texts.directory texts.rules) input;
   inside = λ texts key. inside_in inside (reads texts.directory texts.rules) key;
+  takes = λ texts sender mailbox target. takes_in takes (reads texts.directory texts.rules) sender mailbox target;
 }

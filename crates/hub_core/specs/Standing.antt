@@ -1,5 +1,5 @@
 -- The state that a history leaves, and what it answers.
-use Rattle.std.specs.Prelude.{◌≡◌, ◌&&◌, ◌==◌, not, nat_le, nat_lt, ℕ, ◌+◌, ◌-◌, ◌%◌, min, max, Bool, true, false, if◌then◌else◌, List, [], ◌∷◌, ◌++◌, length, map, fold, position, slice_get, bytes_eq, unwrap_or, option_map, Option, Some, None, is_some, Result, Ok, Err}
+use Rattle.std.specs.Prelude.{◌≡◌, ◌&&◌, ◌==◌, not, nat_le, nat_lt, ℕ, ◌+◌, ◌-◌, ◌%◌, min, max, Bool, true, false, if◌then◌else◌, List, [], ◌∷◌, ◌++◌, length, map, fold, position, slice_get, bytes_eq, unwrap_or, Option, Some, None, is_some, Result, Ok, Err}
 use Rattle.std.specs.List.{list_any}
 use Rattle.mail_names.specs.declared.name.ItemName.{ItemName}
 use Rattle.mail_names.specs.declared.name.Mark.{Mark}

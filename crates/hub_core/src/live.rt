@@ -140,7 +140,7 @@ impl<T: Planner> Live<T> {
         ensures value { result ≡ made_at self.now.accepted_at self.now.opened release }
         ensures moment { result ≤ LAST_MOMENT }
     {
-        moment_of(self.accepted_at, &self.opened, release)
+        mail_plan::made_at(self.accepted_at, &self.opened, release)
     }
 
     /// The task of making a release, if it waits to be categorised.
@@ -215,7 +215,7 @@ impl<T: Planner> Live<T> {
 
     /// Whether the sender of this key is told of an approval's end.
     pub fn is_told(&self, sender: &Key, tell: Tell) -> bool
-        ensures { (limits : Limits) → result ≡ is_told (setup_of T.reads T.release_of T.inside limits) self.now.org sender.now tell }
+        ensures { (limits : Limits) → result ≡ is_told (setup_of T.reads T.release_of T.inside T.takes limits) self.now.org sender.now tell }
     {
         match tell {
             Tell::Always => true,
@@ -366,23 +366,8 @@ pub fn asking_for<'a, T: Planner>(
     }
 }
 
-// The moment of a release.
-fn moment_of(accepted_at: u64, opened: &[Opening], release: u32) -> u64
-    requires { accepted_at ≤ LAST_MOMENT }
-    ensures value { result ≡ made_at accepted_at opened.now release }
-    ensures moment { result ≤ LAST_MOMENT }
-{
-    if release == 0 {
-        return accepted_at;
-    }
-    match opened.get(release as usize - 1) {
-        None => accepted_at,
-        Some(opening) => opening.moment(),
-    }
-}
-
 fn is_inside<T: Planner>(org: &T::Org, sender: &Key) -> bool
-    ensures { (limits : Limits) → result ≡ (setup_of T.reads T.release_of T.inside limits).inside (texts_of T.directory_of T.rules_of org.now) sender.now }
+    ensures { (limits : Limits) → result ≡ (setup_of T.reads T.release_of T.inside T.takes limits).inside (texts_of T.directory_of T.rules_of org.now) sender.now }
 {
     let _texts = T::texts(org);
     T::is_inside(org, sender)

@@ -1,11 +1,10 @@
 // Where the input of an outcome differs from the one that is asked.
 ghost use Rattle.std.specs.Prelude.{◌≡◌, ◌+◌, ◌==◌, ℕ, [], None, bytes_eq, option_copied};
-ghost use Rattle.mail_plan.specs.Planning.{same_gate};
 ghost use Rattle.hub_core.specs.Setup.{texts_of};
 ghost use Rattle.hub_core.specs.Differing.{place_where, bytes_differ, keys_differ, gates_differ, numbers_differ, options_differ, origins_differ, or_behind, submissions_differ, orgs_differ, first_difference};
 
 use mail_names::{Gate, Items, Key};
-use mail_plan::{Origin, Outcome, Planner, ReleaseInput, Submission};
+use mail_plan::{Origin, Outcome, Planner, ReleaseInput, Submission, same_gate};
 
 /// A part of what a release is made from.
 #[derive(Clone, Copy, Debug, PartialEq, Eq)]
@@ -61,18 +60,6 @@ fn numbers_differ(a: u64, b: u64) -> Option<usize>
     ensures { result ≡ numbers_differ a b }
 {
     if a == b { None } else { Some(0) }
-}
-
-// Whether these are one gate.
-fn same_gate(a: &Gate, b: &Gate) -> bool
-    ensures { result ≡ same_gate a.now b.now }
-{
-    match (a, b) {
-        (Gate::Object { key }, Gate::Object { key: other }) => key.bytes() == other.bytes(),
-        (Gate::Object { .. }, Gate::Rule { .. }) => false,
-        (Gate::Rule { .. }, Gate::Object { .. }) => false,
-        (Gate::Rule { place }, Gate::Rule { place: other }) => place == other,
-    }
 }
 
 fn gates_differ(a: &[Gate], b: &[Gate]) -> Option<usize>

@@ -64,7 +64,7 @@ fn first_org<T: Planner>(alloc: Global) -> Result<T::Org, NoMemory>
 impl<T: Planner> State<T> {
     /// The state of the empty history under these limits.
     pub fn start(alloc: Global, limits: Limits) -> Result<State<T>, NoMemory>
-        ensures { IfOk result (λ state. state ≡ start (setup_of T.reads T.release_of T.inside limits)) }
+        ensures { IfOk result (λ state. state ≡ start (setup_of T.reads T.release_of T.inside T.takes limits)) }
     {
         let newest = Arc::new(alloc, first_org::<T>(alloc)?)?;
         Ok(State {
@@ -164,7 +164,7 @@ impl<T: Planner> State<T> {
     /// The item of this name, if it waits.
     pub fn item(&self, name: &ItemName) -> Option<&QueuedItem>
         ensures value { option_copied result ≡ find (is_named name.now) self.now.waiting }
-        ensures waits { IsSome result → is_lawful (setup_of T.reads T.release_of T.inside self.now.limits) self.now (Entry.Delivered name.now) ≡ true }
+        ensures waits { IsSome result → is_lawful (setup_of T.reads T.release_of T.inside T.takes self.now.limits) self.now (Entry.Delivered name.now) ≡ true }
     {
         find(&self.waiting, name)
     }
@@ -226,7 +226,7 @@ impl<T: Planner> State<T> {
 
     /// What is answered to a command.
     pub fn judge(&self, alloc: Global, command: &Command<T>) -> Result<Reply, NoMemory>
-        ensures { IfOk result (λ reply. reply ≡ reply_to (texts_of T.directory_of T.rules_of) (setup_of T.reads T.release_of T.inside self.now.limits) self.now command.now) }
+        ensures { IfOk result (λ reply. reply ≡ reply_to (texts_of T.directory_of T.rules_of) (setup_of T.reads T.release_of T.inside T.takes self.now.limits) self.now command.now) }
     {
         match command {
             Command::Organise { directory, rules } => {
@@ -252,7 +252,7 @@ impl<T: Planner> State<T> {
         directory: &[u8],
         rules: &[u8],
     ) -> Result<Reply, NoMemory>
-        ensures { IfOk result (λ reply. reply ≡ reply_organise (setup_of T.reads T.release_of T.inside self.now.limits) self.now (record { directory = directory.now; rules = rules.now })) }
+        ensures { IfOk result (λ reply. reply ≡ reply_organise (setup_of T.reads T.release_of T.inside T.takes self.now.limits) self.now (record { directory = directory.now; rules = rules.now })) }
     {
         match T::read_org(alloc, directory, rules) {
             Err(OrgFault::NoMemory) => Err(NoMemory),
@@ -370,7 +370,7 @@ impl<T: Planner> State<T> {
     ///
     /// After a refusal the state is as it was.
     pub fn apply(&mut self, alloc: Global, entry: Entry) -> Result<(), StepFault>
-        ensures { Applies (setup_of T.reads T.release_of T.inside self.old.limits) self.old entry result self.new }
+        ensures { Applies (setup_of T.reads T.release_of T.inside T.takes self.old.limits) self.old entry result self.new }
     {
         match entry {
             Entry::Organised { directory, rules } => {
@@ -395,7 +395,7 @@ impl<T: Planner> State<T> {
 
     // An organisation comes into force, if these are the texts of one.
     fn organise(&mut self, alloc: Global, directory: &[u8], rules: &[u8]) -> Result<(), StepFault>
-        ensures { Applies (setup_of T.reads T.release_of T.inside self.old.limits) self.old (Entry.Organised directory.now rules.now) result self.new }
+        ensures { Applies (setup_of T.reads T.release_of T.inside T.takes self.old.limits) self.old (Entry.Organised directory.now rules.now) result self.new }
     {
         match T::read_org(alloc, directory, rules) {
             Ok(org) => self.change(alloc, org),
@@ -407,7 +407,7 @@ impl<T: Planner> State<T> {
 
     // This organisation comes into force, if it is another one and there is room for it.
     fn change(&mut self, alloc: Global, org: T::Org) -> Result<(), StepFault>
-        ensures { (directory rules : List ℕ) → T.reads directory rules ≡ Ok org → Applies (setup_of T.reads T.release_of T.inside self.old.limits) self.old (Entry.Organised directory rules) result self.new }
+        ensures { (directory rules : List ℕ) → T.reads directory rules ≡ Ok org → Applies (setup_of T.reads T.release_of T.inside T.takes self.old.limits) self.old (Entry.Organised directory rules) result self.new }
     {
         let (directory, rules) = T::texts(&org);
         if self.is_newest(directory, rules) {
@@ -442,7 +442,7 @@ impl<T: Planner> State<T> {
         moment: u64,
         submission: Submission,
     ) -> Result<(), StepFault>
-        ensures { Applies (setup_of T.reads T.release_of T.inside self.old.limits) self.old (Entry.Accepted moment submission) result self.new }
+        ensures { Applies (setup_of T.reads T.release_of T.inside T.takes self.old.limits) self.old (Entry.Accepted moment submission) result self.new }
     {
         if !self.is_moment(moment)
             || self.live.place_of_same(&submission).is_some()
@@ -469,7 +469,7 @@ impl<T: Planner> State<T> {
         release: u32,
         plan: Release,
     ) -> Result<(), StepFault>
-        ensures { Applies (setup_of T.reads T.release_of T.inside self.old.limits) self.old (Entry.Categorised number release plan) result self.new }
+        ensures { Applies (setup_of T.reads T.release_of T.inside T.takes self.old.limits) self.old (Entry.Categorised number release plan) result self.new }
     {
         if number == 0
             || !is_uncategorised(self.live.as_slice(), (number - 1) as usize, release)
@@ -496,7 +496,7 @@ impl<T: Planner> State<T> {
 
     // An item is in its folder.
     fn deliver(&mut self, name: &ItemName) -> Result<(), StepFault>
-        ensures { Applies (setup_of T.reads T.release_of T.inside self.old.limits) self.old (Entry.Delivered name.now) result self.new }
+        ensures { Applies (setup_of T.reads T.release_of T.inside T.takes self.old.limits) self.old (Entry.Delivered name.now) result self.new }
     {
         if !is_waiting(&self.waiting, name) {
             return Err(StepFault::NotLawful);

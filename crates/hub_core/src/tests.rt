@@ -50,6 +50,8 @@ impl Planner for Silent {
 
     ghost inside = { λ org key. false };
 
+    ghost takes = { λ org sender mailbox target. false };
+
     fn read_org(alloc: Global, directory: &[u8], rules: &[u8]) -> Result<AnyOrg, OrgFault> {
         let (Ok(directory), Ok(rules)) = (Bytes::of(alloc, directory), Bytes::of(alloc, rules))
         else {
@@ -88,6 +90,8 @@ impl Planner for Silent {
     ghost sent_once = { λ org earlier later goes_on target sent. refl };
 
     ghost met_once = { λ org earlier later goes_on gate met. refl };
+
+    ghost reported = { λ org input is holds mailbox. refl };
 }
 
 fn key(alloc: Global, text: &str) -> Result<Key, Fail> {

@@ -11,8 +11,9 @@ impl Planner for HubPlanner {
     ghost use Rattle.std.specs.Prelude.{◌≡◌, ℕ, Bool, true, false, List, Result, Ok};
     ghost use Rattle.org_directory.specs.Register.{is_inside};
     ghost use Rattle.categorizer.specs.Organisation.{Organisation, organisation_of};
-    ghost use Rattle.categorizer.specs.Releasing.{hub_release};
+    ghost use Rattle.categorizer.specs.Releasing.{hub_release, takes};
     ghost use Rattle.categorizer.proofs.First as first;
+    ghost use Rattle.categorizer.proofs.Journaling as journaling;
     ghost use Rattle.categorizer.proofs.Keeping as keeping;
 
     type Org = HubOrg;
@@ -26,6 +27,8 @@ impl Planner for HubPlanner {
     ghost release_of = { hub_release };
 
     ghost inside = { λ (org : Organisation) key. is_inside org.register key };
+
+    ghost takes = { takes };
 
     fn read_org(alloc: Global, directory: &[u8], rules: &[u8]) -> Result<HubOrg, OrgFault> {
         HubOrg::read(alloc, directory, rules)
@@ -56,4 +59,6 @@ impl Planner for HubPlanner {
     ghost sent_once = { keeping.sent_once };
 
     ghost met_once = { keeping.met_once };
+
+    ghost reported = { journaling.reported };
 }

@@ -6,5 +6,5 @@ mod Made
 mod ByKind
 pub mod Printable
 mod Chains
-mod Once
+pub mod Once
 mod Opened

@@ -35,7 +35,7 @@ neither : (a b c : Bool) → (a ≡ true → c ≡ false) → (b ≡ true → c 
 neither true b c f g h = f refl
 neither false b c f g h = g h
 
-joined-distinct : (xs ys : List (List ℕ)) → are_distinct xs ≡ true → are_distinct ys ≡ true →
+pub joined-distinct : (xs ys : List (List ℕ)) → are_distinct xs ≡ true → are_distinct ys ≡ true →
     ((key : List ℕ) → is_among key xs ≡ true → is_among key ys ≡ false) → are_distinct (xs ++ ys) ≡ true
 joined-distinct [] ys p q apart = q
 joined-distinct (key ∷ xs) ys p q apart =

@@ -1,11 +1,14 @@
 -- What a planner is asked for, and the form of what it gives.
-use Rattle.std.specs.Prelude.{◌≡◌, ℕ, zero, suc, ◌+◌, ◌==◌, ◌&&◌, not, nat_lt, nat_le, Bool, true, false, if◌then◌else◌, List, [], ◌∷◌, ◌++◌, length, map, take, bytes_eq, codes, Option, Some, None, Result, Ok, Err}
-use Rattle.std.specs.List.{list_any, slice_get}
+use Rattle.std.specs.Prelude.{◌≡◌, ℕ, zero, suc, ◌+◌, ◌==◌, ◌&&◌, not, nat_lt, nat_le, Bool, true, false, if◌then◌else◌, List, [], ◌∷◌, ◌++◌, length, map, filter, take, bytes_eq, codes, Option, Some, None, unwrap_or, slice_get, ◌≤◌, Result, Ok, Err}
+use Rattle.std.specs.List.{list_any}
 use Rattle.mail_names.specs.declared.gate.Gate.{Gate}
 use Rattle.mail_names.specs.declared.gate.Gate.TheVariants as gates
 use Rattle.mail_names.specs.declared.name.ItemName.{ItemName}
 use Rattle.mail_names.specs.declared.name.Mark.{Mark}
 use Rattle.mail_names.specs.declared.name.Mark.TheVariants as marks
+use Rattle.journal_report.specs.declared.parts.Line.{Line}
+use Rattle.journal_report.specs.Listed.{OneLists}
+use Rattle.mail_plan.specs.Entries.{IsSubmission}
 use Rattle.mail_plan.specs.Submission.{Submitted}
 use Rattle.mail_plan.specs.declared.planner.OrgFault.{OrgFault}
 use Rattle.mail_plan.specs.declared.planner.OrgFault.TheVariants as faults
@@ -26,6 +29,11 @@ pub record Input : Type 0 where
   pub before : Option (List Gate)
   pub opened : List Gate
   pub submission : Submitted
+
+-- what holds of an input by its types: what is submitted can be, and the release is made by the last moment
+pub record IsInput (input : Input) : Type 0 where
+  pub submission : IsSubmission input.submission
+  pub made : input.made ≤ 253402300799
 
 -- What a reading answers is what the texts read to, unless memory ran out.
 abbrev pub Gives : {Org : Type 0} → Result Org OrgFault → Result Org OrgFault → Type 0
@@ -108,6 +116,37 @@ is_version kinds.Notice = false
 abbrev pub targets : List Item → List (List ℕ)
 targets [] = []
 targets (item ∷ items) = if is_version item.kind then item.folder ∷ targets items else targets items
+
+-- the versions as a report lists them, in order: each target, and why it is one
+abbrev pub lines_of : List Item → List Line
+lines_of [] = []
+lines_of (item ∷ items) =
+    if is_version item.kind then record { target = item.folder; why = item.why } ∷ lines_of items else lines_of items
+
+abbrev pub is_report : ItemKind → Bool
+is_report kinds.Version = false
+is_report kinds.Report = true
+is_report kinds.Request = false
+is_report kinds.Notice = false
+
+abbrev pub is_report_to : List ℕ → Item → Bool
+is_report_to mailbox item = is_report item.kind && bytes_eq mailbox item.folder
+
+abbrev pub text_in : List (List ℕ) → Item → List ℕ
+text_in texts item = unwrap_or (slice_get texts item.text) []
+
+-- the texts of the reports to a mailbox, in order
+abbrev pub reports_to : List ℕ → Release → List (List ℕ)
+reports_to mailbox release = map (text_in release.texts) (filter (is_report_to mailbox) release.items)
+
+-- the versions that a mailbox takes, where it takes such targets
+abbrev pub lines_taken : (List ℕ → Bool) → Release → List Line
+lines_taken takes release = filter (λ (line : Line). takes line.target) (lines_of release.items)
+
+-- Each mailbox that takes a version gets one report, which lists exactly the versions that it takes, in their order. Any
+-- other gets none.
+abbrev pub Reports : (List ℕ → List ℕ → Bool) → Release → Type 0
+Reports takes release = (mailbox : List ℕ) → OneLists (reports_to mailbox release) (lines_taken (takes mailbox) release)
 
 -- One submission; all that was opened with the earlier release was opened before the later one.
 pub record Continues (earlier later : Input) : Type 0 where

@@ -4,6 +4,7 @@ ghost use Rattle.std.specs.Arc.{arc_value};
 ghost use Rattle.mail_plan.specs.Planning.{gates_opened, before_at, made_at, input_at, first_input};
 
 use crate::Submission;
+use crate::gates::copied_gate;
 use mail_names::{Gate, Items, LAST_MOMENT, NoMemory};
 use std::alloc::Global;
 use std::marker::Model;
@@ -42,7 +43,7 @@ impl Opening {
         requires { moment ≤ LAST_MOMENT }
         ensures { IfOk result (λ opening. opening ≡ record { gate = gate.now; moment = moment }) }
     {
-        let gate = copy_gate(alloc, gate)?;
+        let gate = copied_gate(alloc, gate)?;
         Ok(Opening { gate, moment })
     }
 
@@ -61,24 +62,12 @@ impl Opening {
     }
 }
 
-fn copy_gate(alloc: Global, gate: &Gate) -> Result<Gate, NoMemory>
-    ensures { IfOk result (λ copy. copy ≡ gate.now) }
-{
-    match gate {
-        Gate::Object { key } => {
-            let key = key.copy(alloc)?;
-            Ok(Gate::Object { key })
-        }
-        Gate::Rule { place } => Ok(Gate::Rule { place: *place }),
-    }
-}
-
 fn gates_opened(alloc: Global, openings: &[Opening]) -> Result<Items<Gate>, NoMemory>
     ensures { IfOk result (λ gates. gates ≡ gates_opened openings.now) }
 {
     let mut gates = Items::new(alloc);
     for opening in openings {
-        gates.push(copy_gate(alloc, opening.gate())?)?;
+        gates.push(copied_gate(alloc, opening.gate())?)?;
     }
     Ok(gates)
 }
@@ -99,8 +88,8 @@ fn before_at(
     Ok(Some(gates))
 }
 
-// The moment of a release, where that of the first is given.
-fn made_at(first: u64, openings: &[Opening], release: usize) -> u64
+/// The moment of a release behind these openings, where that of the first is given.
+pub fn made_at(first: u64, openings: &[Opening], release: u32) -> u64
     requires { first ≤ LAST_MOMENT }
     ensures value { result ≡ made_at first openings.now release }
     ensures moment { result ≤ LAST_MOMENT }
@@ -108,7 +97,7 @@ fn made_at(first: u64, openings: &[Opening], release: usize) -> u64
     if release == 0 {
         return first;
     }
-    match openings.get(release - 1) {
+    match openings.get(release as usize - 1) {
         Some(opening) => opening.moment(),
         None => first,
     }
@@ -181,7 +170,7 @@ impl ReleaseInput {
         ensures { IfOk result (λ input. input ≡ input_at (first_input number epoch accepted_at (arc_value submission)) opened.now release) }
     {
         let place = release as usize;
-        let made = made_at(accepted_at, opened, place);
+        let made = made_at(accepted_at, opened, release);
         let before = before_at(alloc, opened, place)?;
         let opened = gates_opened(alloc, &opened[..place])?;
         Ok(ReleaseInput {

@@ -5,6 +5,7 @@ mod base;
 mod entry;
 mod fields;
 mod form;
+mod gates;
 mod holds;
 mod input;
 mod intake;
@@ -18,7 +19,8 @@ mod submission;
 mod text;
 
 pub use entry::Entry;
-pub use input::{Opening, ReleaseInput};
+pub use gates::{copied_gate, same_gate};
+pub use input::{Opening, ReleaseInput, made_at};
 pub use intake::{Accepted, Intake, IntakeFault, IntakeStep};
 pub use outcome::{Outcome, Task, plan};
 pub use planner::{FIRST_DIRECTORY, OrgFault, Planner};

@@ -17,9 +17,10 @@ pub const FIRST_DIRECTORY: &[u8] = b"key,kind,members,owners,moderated,moderator
 
 /// Reads organisations, and makes the releases of submissions by them.
 pub trait Planner {
-    ghost use Rattle.std.specs.Prelude.{◌≡◌, ℕ, Bool, true, false, List, [], Result, Ok, Err, IfOk};
+    ghost use Rattle.std.specs.Prelude.{◌≡◌, ℕ, Bool, true, false, List, [], Option, Result, Ok, Err, IfOk};
     ghost use Rattle.mail_names.specs.declared.gate.Gate.{Gate};
-    ghost use Rattle.mail_plan.specs.Planning.{Input, Gives, Continues, first_directory, is_release, are_distinct, are_distinct_gates, is_among, is_gate_among, targets, gates_of};
+    ghost use Rattle.mail_plan.specs.Entries.{IsRelease};
+    ghost use Rattle.mail_plan.specs.Planning.{Input, IsInput, Gives, Continues, Reports, first_directory, is_release, are_distinct, are_distinct_gates, is_among, is_gate_among, targets, gates_of};
     ghost use Rattle.mail_plan.specs.declared.planner.OrgFault.{OrgFault};
     ghost use Rattle.mail_plan.specs.declared.release.Release.{Release};
 
@@ -38,6 +39,9 @@ pub trait Planner {
 
     /// The key's domain is accepted.
     ghost inside: { Self.Org → List ℕ → Bool };
+
+    /// Whether a journaling mailbox takes a target of mail of a sender, where None is the null sender.
+    ghost takes: { Self.Org → Option (List ℕ) → List ℕ → List ℕ → Bool };
 
     /// The organisation of two texts, or their first fault.
     fn read_org(alloc: Global, directory: &[u8], rules: &[u8]) -> Result<Self::Org, OrgFault>
@@ -82,4 +86,9 @@ pub trait Planner {
     /// A gate that a release met, no later one meets.
     ghost met_once: { (org : Self.Org) (earlier later : Input) → Continues earlier later → (gate : Gate) →
         is_gate_among gate (gates_of (release_of org earlier).holds) ≡ true → is_gate_among gate (gates_of (release_of org later).holds) ≡ false };
+
+    /// Each mailbox that takes a version of a release gets one report of it, which lists exactly the versions that it
+    /// takes, in their order. The release is one that an entry can hold.
+    ghost reported: { (org : Self.Org) (input : Input) → IsInput input → IsRelease (release_of org input) →
+        Reports (takes org input.submission.reverse) (release_of org input) };
 }

@@ -1,4 +1,5 @@
 pub mod Growing
+pub mod Journal
 pub mod Opening
 pub mod Planning
 pub mod Stepping

@@ -68,6 +68,8 @@ fn main(rt: HostRuntime) -> ExitCode {
 }
 
 #[cfg(test)]
+mod journal_tests;
+#[cfg(test)]
 mod moderation_tests;
 #[cfg(test)]
 mod rules_tests;

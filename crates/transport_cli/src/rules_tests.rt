@@ -212,7 +212,7 @@ const TOO_MANY: &[u8] =
     b"From: <mailhub@hub.invalid>\r\nTo: <ann@example.com>\r\nDate: Sun, 01 Mar 2026 00:00:00 +0000\r\nMessage-Id: <1-0-0@hub.invalid>\r\nSubject: Too many recipients\r\nAuto-Submitted: auto-replied\r\nMIME-Version: 1.0\r\nContent-Type: text/plain; charset=utf-8\r\nContent-Transfer-Encoding: 8bit\r\n\r\nSubmission: 1\r\nOriginal-Id: <m18@example.com>\r\nOriginal-Subject: \r\nThe message expands to more than 2000 recipients and was sent to nobody.\r\n";
 
 // The directory of a group of so many mailboxes.
-fn crowd(alloc: Global, count: u32) -> Result<Bytes, Fail> {
+pub fn crowd(alloc: Global, count: u32) -> Result<Bytes, Fail> {
     let mut rows = Bytes::of(alloc, FIRST_DIRECTORY)?;
     let mut members = Bytes::new(alloc);
     for i in 0..count {

@@ -1,11 +1,12 @@
 // Organisations that come into force, and releases that are made for the hub.
-ghost use Rattle.std.specs.Prelude.{◌≡◌, ◌⊎◌, ◌<◌, List, false, IsTrue, IsOk, IfOk, IfErr, IfSome, OnOk, IsErrOf, option_map, unwrap_or};
+ghost use Rattle.std.specs.Prelude.{◌≡◌, ◌⊎◌, ◌<◌, ◌++◌, List, false, IsTrue, IsOk, IfOk, IfErr, IfSome, OnOk, IsErrOf, option_map, unwrap_or};
 ghost use Rattle.std.specs.Arc.{arc_value};
 ghost use Rattle.port_io.specs.Causes.{Rose};
 ghost use Rattle.mail_plan.specs.declared.entry.Entry.{Entry};
 ghost use Rattle.plant_dev.specs.Disk.{Stays};
 ghost use Rattle.hub_core.specs.declared.limits.Limits.{Limits};
 ghost use Rattle.hub_core.specs.Setup.{Setup, setup_of, texts_of};
+ghost use Rattle.hub_core.specs.Journal.{IsJournaled};
 ghost use Rattle.hub_core.specs.Mail.{IsTask};
 ghost use Rattle.hub_core.specs.Standing.{mail_of, task_name, first_task};
 ghost use Rattle.hub_core.specs.Replies.{reply_commit};
@@ -32,12 +33,12 @@ impl<T: Planner> Hub<T> {
         directory: Bytes,
         rules: Bytes,
     ) -> Result<u32, HubFault>
-        ensures epoch { IfOk result (IsInForce (setup_of T.reads T.release_of T.inside self.old.state.limits) self.old.state (record { directory = directory; rules = rules })) }
-        ensures adds { (limits : Limits) (h : List Entry) → IsReady (setup_of T.reads T.release_of T.inside limits) (P.state plant.old) self.old h →
-            OnOk result (Adds (setup_of T.reads T.release_of T.inside limits) (P.state plant.new) self.new h (entries_organise (setup_of T.reads T.release_of T.inside limits) self.old.state (record { directory = directory; rules = rules }))) }
-        ensures declines { (limits : Limits) (h : List Entry) → IsReady (setup_of T.reads T.release_of T.inside limits) (P.state plant.old) self.old h →
+        ensures epoch { IfOk result (IsInForce (setup_of T.reads T.release_of T.inside T.takes self.old.state.limits) self.old.state (record { directory = directory; rules = rules })) }
+        ensures adds { (limits : Limits) (h : List Entry) → IsReady (setup_of T.reads T.release_of T.inside T.takes limits) (P.state plant.old) self.old h →
+            OnOk result (Adds (setup_of T.reads T.release_of T.inside T.takes limits) (P.state plant.new) self.new h (entries_organise (setup_of T.reads T.release_of T.inside T.takes limits) self.old.state (record { directory = directory; rules = rules }))) }
+        ensures declines { (limits : Limits) (h : List Entry) → IsReady (setup_of T.reads T.release_of T.inside T.takes limits) (P.state plant.old) self.old h →
             IfErr result (λ e. (e ≡ HubFault.DiskFault)
-            ⊎ RefusesOrg (setup_of T.reads T.release_of T.inside limits) (P.state plant.new) self.new h self.old.state (record { directory = directory; rules = rules }) e) }
+            ⊎ RefusesOrg (setup_of T.reads T.release_of T.inside T.takes limits) (P.state plant.new) self.new h self.old.state (record { directory = directory; rules = rules }) e) }
         ensures open { self.old.broken ≡ false → IsOk result → self.new.broken ≡ false }
         ensures shelf { IsTrue (P.state plant.old).honest → (P.state plant.new).image.shelf ≡ (P.state plant.old).image.shelf }
         ensures stays { Stays (P.state plant.old) (P.state plant.new) }
@@ -72,12 +73,12 @@ impl<T: Planner> Hub<T> {
         directory: Option<Bytes>,
         rules: Option<Bytes>,
     ) -> Result<u32, HubFault>
-        ensures epoch { IfOk result (IsInForce (setup_of T.reads T.release_of T.inside self.old.state.limits) self.old.state (texts_asked self.old.state directory rules)) }
-        ensures adds { (limits : Limits) (h : List Entry) → IsReady (setup_of T.reads T.release_of T.inside limits) (P.state plant.old) self.old h →
-            OnOk result (Adds (setup_of T.reads T.release_of T.inside limits) (P.state plant.new) self.new h (entries_organise (setup_of T.reads T.release_of T.inside limits) self.old.state (texts_asked self.old.state directory rules))) }
-        ensures declines { (limits : Limits) (h : List Entry) → IsReady (setup_of T.reads T.release_of T.inside limits) (P.state plant.old) self.old h →
+        ensures epoch { IfOk result (IsInForce (setup_of T.reads T.release_of T.inside T.takes self.old.state.limits) self.old.state (texts_asked self.old.state directory rules)) }
+        ensures adds { (limits : Limits) (h : List Entry) → IsReady (setup_of T.reads T.release_of T.inside T.takes limits) (P.state plant.old) self.old h →
+            OnOk result (Adds (setup_of T.reads T.release_of T.inside T.takes limits) (P.state plant.new) self.new h (entries_organise (setup_of T.reads T.release_of T.inside T.takes limits) self.old.state (texts_asked self.old.state directory rules))) }
+        ensures declines { (limits : Limits) (h : List Entry) → IsReady (setup_of T.reads T.release_of T.inside T.takes limits) (P.state plant.old) self.old h →
             IfErr result (λ e. (e ≡ HubFault.DiskFault)
-            ⊎ RefusesOrg (setup_of T.reads T.release_of T.inside limits) (P.state plant.new) self.new h self.old.state (texts_asked self.old.state directory rules) e) }
+            ⊎ RefusesOrg (setup_of T.reads T.release_of T.inside T.takes limits) (P.state plant.new) self.new h self.old.state (texts_asked self.old.state directory rules) e) }
         ensures open { self.old.broken ≡ false → IsOk result → self.new.broken ≡ false }
         ensures shelf { IsTrue (P.state plant.old).honest → (P.state plant.new).image.shelf ≡ (P.state plant.old).image.shelf }
         ensures stays { Stays (P.state plant.old) (P.state plant.new) }
@@ -106,12 +107,12 @@ impl<T: Planner> Hub<T> {
         directory: Option<Bytes>,
         rules: Option<Bytes>,
     ) -> Result<u32, HubFault>
-        ensures epoch { self.old.broken ≡ false → IfOk result (IsInForce (setup_of T.reads T.release_of T.inside self.old.state.limits) self.old.state (texts_asked self.old.state directory rules)) }
-        ensures adds { (limits : Limits) (h : List Entry) → IsReady (setup_of T.reads T.release_of T.inside limits) (P.state plant.old) self.old h →
-            OnOk result (Adds (setup_of T.reads T.release_of T.inside limits) (P.state plant.new) self.new h (entries_organise (setup_of T.reads T.release_of T.inside limits) self.old.state (texts_asked self.old.state directory rules))) }
-        ensures declines { (limits : Limits) (h : List Entry) → IsReady (setup_of T.reads T.release_of T.inside limits) (P.state plant.old) self.old h →
+        ensures epoch { self.old.broken ≡ false → IfOk result (IsInForce (setup_of T.reads T.release_of T.inside T.takes self.old.state.limits) self.old.state (texts_asked self.old.state directory rules)) }
+        ensures adds { (limits : Limits) (h : List Entry) → IsReady (setup_of T.reads T.release_of T.inside T.takes limits) (P.state plant.old) self.old h →
+            OnOk result (Adds (setup_of T.reads T.release_of T.inside T.takes limits) (P.state plant.new) self.new h (entries_organise (setup_of T.reads T.release_of T.inside T.takes limits) self.old.state (texts_asked self.old.state directory rules))) }
+        ensures declines { (limits : Limits) (h : List Entry) → IsReady (setup_of T.reads T.release_of T.inside T.takes limits) (P.state plant.old) self.old h →
             IfErr result (λ e. (e ≡ HubFault.DiskFault)
-            ⊎ RefusesOrg (setup_of T.reads T.release_of T.inside limits) (P.state plant.new) self.new h self.old.state (texts_asked self.old.state directory rules) e) }
+            ⊎ RefusesOrg (setup_of T.reads T.release_of T.inside T.takes limits) (P.state plant.new) self.new h self.old.state (texts_asked self.old.state directory rules) e) }
         ensures open { IsOk result → self.new.broken ≡ false }
         ensures shelf { IsTrue (P.state plant.old).honest → (P.state plant.new).image.shelf ≡ (P.state plant.old).image.shelf }
         ensures stays { Stays (P.state plant.old) (P.state plant.new) }
@@ -154,11 +155,11 @@ impl<T: Planner> Hub<T> {
         outcome: Outcome<T>,
     ) -> Result<CommitEnd, HubFault>
         ensures end { IfOk result (λ end. reply_of_end end ≡ reply_commit self.old.state outcome.1 (texts_of T.directory_of T.rules_of outcome.0)) }
-        ensures adds { (limits : Limits) (h : List Entry) → IsReady (setup_of T.reads T.release_of T.inside limits) (P.state plant.old) self.old h →
-            OnOk result (Adds (setup_of T.reads T.release_of T.inside limits) (P.state plant.new) self.new h (entries_commit self.old.state outcome.1 (texts_of T.directory_of T.rules_of outcome.0) outcome.2)) }
-        ensures declines { (limits : Limits) (h : List Entry) → IsReady (setup_of T.reads T.release_of T.inside limits) (P.state plant.old) self.old h →
+        ensures adds { (limits : Limits) (h : List Entry) → IsReady (setup_of T.reads T.release_of T.inside T.takes limits) (P.state plant.old) self.old h →
+            OnOk result (Adds (setup_of T.reads T.release_of T.inside T.takes limits) (P.state plant.new) self.new h (entries_commit self.old.state outcome.1 (texts_of T.directory_of T.rules_of outcome.0) outcome.2)) }
+        ensures declines { (limits : Limits) (h : List Entry) → IsReady (setup_of T.reads T.release_of T.inside T.takes limits) (P.state plant.old) self.old h →
             IfErr result (λ e. (e ≡ HubFault.DiskFault)
-            ⊎ Declined (setup_of T.reads T.release_of T.inside limits) (P.state plant.new) self.new h (entries_commit self.old.state outcome.1 (texts_of T.directory_of T.rules_of outcome.0) outcome.2) e) }
+            ⊎ Declined (setup_of T.reads T.release_of T.inside T.takes limits) (P.state plant.new) self.new h (entries_commit self.old.state outcome.1 (texts_of T.directory_of T.rules_of outcome.0) outcome.2) e) }
         ensures open { self.old.broken ≡ false → IsOk result → self.new.broken ≡ false }
         ensures shelf { IsTrue (P.state plant.old).honest → (P.state plant.new).image.shelf ≡ (P.state plant.old).image.shelf }
         ensures stays { Stays (P.state plant.old) (P.state plant.new) }
@@ -180,7 +181,7 @@ impl<T: Planner> Hub<T> {
     }
 
     /// Categorises by an outcome: its release is added where it was made from the input of a release that waits, and by
-    /// its organisation.
+    /// its organisation. Behind it the reports of each submission list what each mailbox takes of all that was sent.
     pub fn commit<P: Plant>(
         &mut self,
         alloc: Global,
@@ -189,16 +190,19 @@ impl<T: Planner> Hub<T> {
     ) -> Result<CommitEnd, HubFault>
         ensures end { self.old.broken ≡ false →
             IfOk result (λ end. reply_of_end end ≡ reply_commit self.old.state outcome.1 (texts_of T.directory_of T.rules_of outcome.0)) }
-        ensures adds { (limits : Limits) (h : List Entry) → IsReady (setup_of T.reads T.release_of T.inside limits) (P.state plant.old) self.old h →
-            OnOk result (Adds (setup_of T.reads T.release_of T.inside limits) (P.state plant.new) self.new h (entries_commit self.old.state outcome.1 (texts_of T.directory_of T.rules_of outcome.0) outcome.2)) }
-        ensures declines { (limits : Limits) (h : List Entry) → IsReady (setup_of T.reads T.release_of T.inside limits) (P.state plant.old) self.old h →
+        ensures adds { (limits : Limits) (h : List Entry) → IsReady (setup_of T.reads T.release_of T.inside T.takes limits) (P.state plant.old) self.old h →
+            OnOk result (Adds (setup_of T.reads T.release_of T.inside T.takes limits) (P.state plant.new) self.new h (entries_commit self.old.state outcome.1 (texts_of T.directory_of T.rules_of outcome.0) outcome.2)) }
+        ensures declines { (limits : Limits) (h : List Entry) → IsReady (setup_of T.reads T.release_of T.inside T.takes limits) (P.state plant.old) self.old h →
             IfErr result (λ e. (e ≡ HubFault.DiskFault)
-            ⊎ Declined (setup_of T.reads T.release_of T.inside limits) (P.state plant.new) self.new h (entries_commit self.old.state outcome.1 (texts_of T.directory_of T.rules_of outcome.0) outcome.2) e) }
+            ⊎ Declined (setup_of T.reads T.release_of T.inside T.takes limits) (P.state plant.new) self.new h (entries_commit self.old.state outcome.1 (texts_of T.directory_of T.rules_of outcome.0) outcome.2) e) }
+        ensures journal { (limits : Limits) (h : List Entry) → IsReady (setup_of T.reads T.release_of T.inside T.takes limits) (P.state plant.old) self.old h →
+            OnOk result (IsJournaled (setup_of T.reads T.release_of T.inside T.takes limits) (h ++ entries_commit self.old.state outcome.1 (texts_of T.directory_of T.rules_of outcome.0) outcome.2)) }
         ensures open { IsOk result → self.new.broken ≡ false }
         ensures shelf { IsTrue (P.state plant.old).honest → (P.state plant.new).image.shelf ≡ (P.state plant.old).image.shelf }
         ensures stays { Stays (P.state plant.old) (P.state plant.new) }
         ensures cause { IsErrOf result HubFault.DiskFault → Rose (P.state plant.old).disk_faults (P.state plant.new).disk_faults }
     {
+        hub_core::laws::reports_list_what_is_sent::<T>();
         self.mend(alloc, plant)?;
         self.commit_outcome(alloc, plant, outcome)
     }

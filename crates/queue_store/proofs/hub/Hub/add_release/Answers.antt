@@ -11,7 +11,7 @@ use Rattle.queue_store.proofs.hub.Hub.add_release.Goals as goal
 pub returns-clause-adds : goal.returns-clause-adds
 returns-clause-adds g c limits h ready =
     let s0 = g.P.Plant.state c.args.plant.now in
-    let setup = setup_of g.T.Planner.reads g.T.Planner.release_of g.T.Planner.inside limits in
+    let setup = setup_of g.T.Planner.reads g.T.Planner.release_of g.T.Planner.inside g.T.Planner.takes limits in
     let org = texts_of g.T.Planner.directory_of g.T.Planner.rules_of c.args.outcome.0 in
     let input = c.args.outcome.1 in
     let number = c.number-number.ensures ∙ ap (λ (i : Input). i.number) c.input.ensures in

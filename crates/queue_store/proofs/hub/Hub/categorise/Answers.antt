@@ -15,7 +15,7 @@ use Rattle.queue_store.proofs.hub.Hub.categorise.Goals as goal
 
 pub returns-in-Ok-clause-adds : goal.returns-in-Ok-clause-adds
 returns-in-Ok-clause-adds g c limits h ready =
-    let setup = setup_of g.T.Planner.reads g.T.Planner.release_of g.T.Planner.inside limits in
+    let setup = setup_of g.T.Planner.reads g.T.Planner.release_of g.T.Planner.inside g.T.Planner.takes limits in
     let name = c.args.name.now in
     let s = c.args.self.now.state in
     let task = c.in-Ok-Some.task in
@@ -35,7 +35,7 @@ returns-in-Ok-clause-adds g c limits h ready =
 
 pub returns-in-Ok-clause-declines : goal.returns-in-Ok-clause-declines
 returns-in-Ok-clause-declines g c limits h ready =
-    let setup = setup_of g.T.Planner.reads g.T.Planner.release_of g.T.Planner.inside limits in
+    let setup = setup_of g.T.Planner.reads g.T.Planner.release_of g.T.Planner.inside g.T.Planner.takes limits in
     let name = c.args.name.now in
     let s = c.args.self.now.state in
     let task = c.in-Ok-Some.task in

@@ -1,0 +1,22 @@
+-- The history of a ready hub is journaled.
+use Rattle.std.proofs.Common.{List, ◌++◌, Result, Ok, Err}
+use Rattle.std.specs.Prelude.{OnOk}
+use Rattle.std.specs.List.{AllByRecursion}
+use Rattle.mail_plan.specs.Entries.{IsEntry}
+use Rattle.mail_plan.specs.declared.entry.Entry.{Entry}
+use Rattle.plant_dev.specs.Disk.{State}
+use Rattle.hub_core.specs.Setup.{Setup}
+use Rattle.hub_core.specs.Items.{IsHistory}
+use Rattle.hub_core.specs.Journal.{IsJournaled}
+use Rattle.queue_store.specs.Ready.{Kept, Adds}
+
+-- where lawful histories are, that which some entries were added to is
+pub journaled : (setup : Setup) (s : State) (hub : Kept) (h es : List Entry) →
+    ((history : List Entry) → IsHistory setup history → AllByRecursion IsEntry history → IsJournaled setup history) →
+    Adds setup s hub h es → IsJournaled setup (h ++ es)
+journaled setup s hub h es law adds = law (h ++ es) adds.ready.stands.history adds.ready.log.file.entries
+
+-- what follows from what holds where there is a value
+pub on_ok : {A E P Q : Type 0} (result : Result A E) → (P → Q) → OnOk result P → OnOk result Q
+on_ok (Ok value) f holds = f holds
+on_ok (Err fault) f holds = holds
