@@ -81,19 +81,34 @@ def example_log():
     return b"MAILHUB1" + organised((EXAMPLE / "directory.csv").read_bytes(), (EXAMPLE / "rules.toml").read_bytes()) + b"\0"
 
 
+def reports(text, lines, original):
+    """Whether a report lists these targets, and encloses this message."""
+    parts = text.split(b"--=_hub_0\r\n")
+    if len(parts) != 3 or not text.startswith(b"X-Hub-Journal-Report: "):
+        return False
+    listed = [line for line in parts[1].split(b"\r\n") if line.startswith(b"Recipient: ")]
+    enclosed = b"\r\n\r\n" + original + b"\r\n--=_hub_0--\r\n"
+    return listed == [b"Recipient: " + line for line in lines] and parts[2].endswith(enclosed)
+
+
 def by_the_example():
-    """The example organisation: mail from outside is marked, what leaves carries a disclaimer, and staff is a group."""
+    """The example organisation: mail from outside is marked, what leaves carries a disclaimer, mia gets reports of both, and
+    staff is a group."""
     log = example_log()
     content = b"Message-Id: <m@example.net>\r\nSubject: Plan\r\n\r\nHello\r\n"
     run, items = sent_in(log, b"eve@example.net", [b"bob@example.com"], content)
     marked = content.replace(b"Plan", b"[outside] Plan")
     wanted = {"bob@example.com/1-0-0.eml": marked}
+    report = items.pop("mia@example.com/1-0-1.eml", b"")
     faults = [] if run.returncode == 0 and items == wanted else [f"from outside: {run} {items}"]
+    faults += [] if reports(report, [b"bob@example.com"], content) else [f"from outside, reported: {report}"]
     run, items = sent_in(log, b"ann@example.com", [b"bob@example.com", b"eve@example.net"], content)
     wanted = {
         "bob@example.com/1-0-0.eml": content,
         "eve@example.net/1-0-1.eml": content + b"This mail is meant for its recipients alone.\r\n",
     }
+    report = items.pop("mia@example.com/1-0-2.eml", b"")
+    faults += [] if reports(report, [b"bob@example.com", b"eve@example.net"], content) else [f"to outside, reported: {report}"]
     return faults + ([] if run.returncode == 0 and items == wanted else [f"to outside: {run} {items}"])
 
 
@@ -125,6 +140,9 @@ def moderated():
         "zed@example.org/1-1-1.eml": MODERATED + b"This mail is meant for its recipients alone.\r\n",
     }
     items, seen = behind_a_gate(b"ann@example.com", decided((1, 0, 0), b"mia@example.com", 0, soon))
+    report = items.pop("mia@example.com/1-1-2.eml", b"")
+    members = [b"cyn@example.com via sub@example.com", b"zed@example.org via sub@example.com"]
+    faults += [] if reports(report, members, MODERATED) else [f"approved, reported: {report}"]
     faults += seen + ([] if items == both else [f"approved: {items}"])
     told = "ann@example.com/1-0-0-g.eml"
     for entry, line in (
