@@ -1,5 +1,6 @@
 #!/usr/bin/env python3
-"""Times planning by an organisation's rules: conditions on a body of 1 MiB, and a group of 2,000 under 100 rules.
+"""Times planning by an organisation's rules: conditions on a body of 1 MiB, a group of 2,000 under 100 rules, and the same
+group under 100 journal rules.
 
 The organisation is written into a log of its own, as the entry that the hub writes. Each time is the least of several
 sessions with one message, less that of the same session where no rule is there.
@@ -119,6 +120,32 @@ def fates(folder):
         print(f"{name:<28} {took:>9.3f} {LEAVES / took:>9.0f} {texts * len(body) / 1e6:>9.2f} {most / 1e6:>10.0f}")
 
 
+def journal_rules(count, mailboxes, recipient):
+    """Journal rules that take all, or all with a recipient, for so many mailboxes."""
+    who = f'recipient = "{recipient}"\n' if recipient else ""
+    return "".join(
+        f'[[journal]]\nname = "{n}"\nscope = "global"\n{who}mailbox = "j{n % mailboxes}@example.net"\n' for n in range(count)
+    ).encode()
+
+
+def journaled(folder):
+    directory = crowd()
+    body = LINE * 140
+    text = message(b"all@example.com", body)
+    none, _ = session(folder, directory, b"", text)
+    print(f"\n{f'{LEAVES} leaves, journal rules':<28} {'seconds':>9} {'leaves/s':>9} {'memory MB':>10}")
+    for name, count, mailboxes, recipient in (
+        ("1 for all", 1, 1, None),
+        ("100 for all, 1 mailbox", RULES, 1, None),
+        ("100 for all, 100 mailboxes", RULES, RULES, None),
+        ("100 for the group, 1 mailbox", RULES, 1, "all@example.com"),
+        ("100 for one leaf, 1 mailbox", RULES, 1, "m7@example.com"),
+    ):
+        took, most = session(folder, directory, journal_rules(count, mailboxes, recipient), text)
+        took = max(took - none, 1e-9)
+        print(f"{name:<28} {took:>9.3f} {LEAVES / took:>9.0f} {most / 1e6:>10.0f}")
+
+
 def main():
     if not os.access(PROGRAM, os.X_OK):
         sys.exit("bench: build the program first: ./yeqorchi session < examples/first.smtp")
@@ -126,6 +153,7 @@ def main():
     with tempfile.TemporaryDirectory(dir=memory) as folder:
         conditions(folder)
         fates(folder)
+        journaled(folder)
 
 
 main()
