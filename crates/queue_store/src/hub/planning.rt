@@ -136,6 +136,7 @@ impl<T: Planner> Hub<T> {
         ensures made { self.old.broken ≡ false → IfOk result (λ task. IfSome task (λ t. IfSome (mail_of self.old.state t.input.number)
             (λ mail. IsTask t.input.number mail t.input (texts_of T.directory_of T.rules_of (arc_value t.org))))) }
         ensures kept { (setup : Setup) (h : List Entry) → IsReady setup (P.state plant.old) self.old h → IsReady setup (P.state plant.new) self.new h }
+        ensures refused { self.old.broken ≡ false → IfErr result (λ e. e ≡ HubFault.NoMemory) }
         ensures open { IsOk result → self.new.broken ≡ false }
         ensures stays { Stays (P.state plant.old) (P.state plant.new) }
         ensures cause { IsErrOf result HubFault.DiskFault → Rose (P.state plant.old).disk_faults (P.state plant.new).disk_faults }
