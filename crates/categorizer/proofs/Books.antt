@@ -1,5 +1,5 @@
 -- Organisations that were read: their texts, their rules and their objects.
-use Rattle.std.proofs.Common.{◌≡◌, ℕ, ◌≤◌, ◌==◌, nat_lt, codes, Bool, true, false, ◌||◌, ◌&&◌, if◌then◌else◌, List, Option, Some, None, Result, Ok, Err, refl, sym, ◌∙◌, ap, subst, rules, arith}
+use Rattle.std.proofs.Common.{◌≡◌, ℕ, ◌≤◌, nat_lt, codes, Bool, true, false, ◌||◌, if◌then◌else◌, List, Option, Some, None, Result, Ok, Err, refl, subst, rules, arith}
 use Rattle.std.specs.List.{list_all}
 use Rattle.std.proofs.lemmas.Bool.Decides.{nat_tests}
 use Rattle.toml.specs.Data.{Items, Members}
@@ -17,7 +17,6 @@ use Rattle.rule_terms.specs.declared.rule.JournalRule.{JournalRule}
 use Rattle.rule_terms.specs.declared.rule.Rule.{Rule}
 use Rattle.rule_terms.specs.declared.shape.Shape.TheVariants as shapes
 use Rattle.rule_terms.proofs.DeedForms.{book-form}
-use Rattle.mail_plan.specs.declared.planner.OrgFault.{OrgFault}
 use Rattle.categorizer.specs.Organisation.{Organisation, with_book, with_register, organisation_of}
 use Rattle.categorizer.proofs.Naming.{and_parts}
 use Rattle.categorizer.proofs.Reading.{has_few, FewIn, register-few}

@@ -1,7 +1,5 @@
 -- What a release has that earlier ones have not.
-use Rattle.std.proofs.Common.{◌≡◌, ℕ, ◌+◌, ◌<◌, ◌≤◌, ◌==◌, Bool, true, false, ◌||◌, ◌&&◌, not, if◌then◌else◌, List, [], ◌∷◌, ◌++◌, map, filter, fold, length, bytes_eq, Option, Some, None, refl, sym, ◌∙◌, ap, subst, rules, arith}
-use Rattle.std.specs.List.{list_any}
-use Rattle.std.proofs.lemmas.Bool.Decides.{nat_tests}
+use Rattle.std.proofs.Common.{◌≡◌, ℕ, ◌+◌, Bool, true, false, ◌||◌, not, if◌then◌else◌, List, [], ◌∷◌, ◌++◌, map, filter, fold, length, bytes_eq, Option, Some, None, refl, sym, ◌∙◌, ap, subst, rules}
 use Rattle.mail_names.specs.declared.gate.Gate.{Gate}
 use Rattle.mail_names.specs.declared.gate.Gate.TheVariants as gates
 use Rattle.journal_report.specs.declared.why.Why.TheVariants as whys
@@ -11,7 +9,7 @@ use Rattle.rule_terms.specs.declared.rule.Rule.{Rule}
 use Rattle.mail_plan.specs.declared.release.Hold.{Hold}
 use Rattle.mail_plan.specs.declared.release.ItemKind.TheVariants as kinds
 use Rattle.mail_plan.specs.Planning.{same_gate, is_among, are_distinct, is_gate_among, are_distinct_gates, is_version, targets, gates_of}
-use Rattle.rule_engine.specs.Run.{is_text, with_text}
+use Rattle.rule_engine.specs.Run.{with_text}
 use Rattle.categorizer.specs.declared.parts.Content.{Content}
 use Rattle.categorizer.specs.declared.parts.Draft.{Draft}
 use Rattle.categorizer.specs.declared.parts.Letter.{Letter}
@@ -19,7 +17,7 @@ use Rattle.categorizer.specs.declared.parts.Loss.{Loss}
 use Rattle.categorizer.specs.declared.parts.Send.{Send}
 use Rattle.categorizer.specs.Plan.{is_target, with_send, firsts}
 use Rattle.categorizer.specs.Releasing.{items_from, version_of, request_to, text_at, asked, with_request, with_requests, notice_of, with_notice, with_notices, with_told, report_at, with_reports, drafts_of, hold_of}
-use Rattle.categorizer.proofs.Lists.{is_opened, same_bytes, bytes_same, or_left, or_right, or_map, is_target-append}
+use Rattle.categorizer.proofs.Lists.{is_opened, same_bytes, or_right, or_map}
 use Rattle.categorizer.proofs.Naming.{and_true, and_parts, of_not, false_of, distinct-fold}
 
 abbrev pub send_target : Send → List ℕ

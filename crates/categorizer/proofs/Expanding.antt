@@ -7,7 +7,6 @@ use Rattle.mail_names.specs.declared.gate.Gate.TheVariants as gates
 use Rattle.org_directory.specs.Register.{Register, among}
 use Rattle.org_directory.specs.Membership.{needs_approval}
 use Rattle.group_expand.specs.declared.way.Way.{Way}
-use Rattle.group_expand.specs.declared.outcome.Closed.{Closed}
 use Rattle.group_expand.specs.Expansion.{opens, is_closed, leaf_of, closed_of, expansion}
 use Rattle.group_expand.specs.Routes.{Opens, leaves, closed_met, all_ways, keys_of}
 use Rattle.group_expand.specs.Ways.{fresh}
@@ -18,7 +17,6 @@ use Rattle.mail_plan.specs.Planning.{same_gate, is_gate_among}
 use Rattle.categorizer.specs.Plan.{closed_gates}
 use Rattle.categorizer.specs.Growth.{is_leaf, ExpansionGrows}
 use Rattle.categorizer.proofs.Lists.{is_opened, same_bytes, or_left, or_right}
-use Rattle.categorizer.proofs.Naming.{and_parts, of_not}
 use Rattle.categorizer.proofs.Meeting.{no-rule}
 
 pub opens-more : (opened more : List Gate) → OpensMore opened (opened ++ more)

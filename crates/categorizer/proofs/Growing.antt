@@ -1,5 +1,5 @@
 -- Plans grow as gates are opened.
-use Rattle.std.proofs.Common.{◌≡◌, ℕ, ◌+◌, ◌==◌, Bool, true, false, ◌||◌, not, if◌then◌else◌, List, [], ◌∷◌, ◌++◌, map, bytes_eq, refl, sym, ◌∙◌, ap, subst, rules}
+use Rattle.std.proofs.Common.{◌≡◌, ℕ, ◌+◌, ◌==◌, Bool, true, false, ◌||◌, if◌then◌else◌, List, [], ◌∷◌, ◌++◌, map, bytes_eq, refl, sym, ◌∙◌, ap, subst, rules}
 use Rattle.std.specs.List.{list_any}
 use Rattle.std.proofs.lemmas.List.Folds.{list_any-append}
 use Rattle.mail_names.specs.declared.gate.Gate.{Gate}
@@ -13,12 +13,12 @@ use Rattle.rule_engine.specs.declared.recipient.End.TheVariants as ends
 use Rattle.rule_engine.specs.declared.recipient.Outcome.{Outcome}
 use Rattle.rule_engine.specs.Gates as engine
 use Rattle.rule_engine.specs.Gates.{OpensMore}
-use Rattle.rule_engine.specs.Growth.{Continues, HeldGrows, EndGrows, OutcomeGrows}
+use Rattle.rule_engine.specs.Growth.{Continues, EndGrows, OutcomeGrows}
 use Rattle.rule_engine.proofs.Growing.{fate-grows}
 use Rattle.categorizer.specs.declared.parts.Rejection.{Rejection}
 use Rattle.categorizer.specs.declared.parts.Send.{Send}
-use Rattle.categorizer.specs.Plan.{Case, kept_at, redirected, copy_send, beside_of, is_target, firsts, rejected_at, is_rejected, is_held_by, held_rules, closed_gates}
-use Rattle.categorizer.specs.Growth.{is_leaf, ExpansionGrows}
+use Rattle.categorizer.specs.Plan.{Case, kept_at, redirected, copy_send, beside_of, is_target, rejected_at, is_rejected, is_held_by, closed_gates}
+use Rattle.categorizer.specs.Growth.{ExpansionGrows}
 use Rattle.categorizer.proofs.Lists.{is_opened, rule_is_opened, fate_of, kept_in, beside_in, rejected_in, holds_in, held_in, sends_in, rejections_in, met_in, holds-leaves, or_left, or_right, or_map, leaves_pass, is_target-append, is_target-firsts}
 
 -- Whether the outcome of a recipient keeps it, or sends a copy or a redirect, for this target.

@@ -1,5 +1,5 @@
 -- A rule that holds a recipient asks for approval.
-use Rattle.std.proofs.Common.{◌≡◌, ℕ, zero, suc, ◌+◌, Bool, true, false, ◌||◌, if◌then◌else◌, List, [], ◌∷◌, Option, Some, None, refl, sym, ◌∙◌, ap, slice_get, arith}
+use Rattle.std.proofs.Common.{◌≡◌, ℕ, zero, suc, ◌+◌, Bool, true, false, ◌||◌, if◌then◌else◌, List, [], ◌∷◌, Option, Some, None, refl, sym, ◌∙◌, slice_get, arith}
 use Rattle.mail_names.specs.declared.gate.Gate.{Gate}
 use Rattle.mail_message.specs.Message.{Mail}
 use Rattle.mail_message.specs.Edits.{add_text, is_plain}

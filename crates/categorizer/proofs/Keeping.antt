@@ -1,9 +1,9 @@
 -- What releases promise.
-use Rattle.std.proofs.Common.{◌≡◌, ℕ, Bool, true, false, ◌||◌, ◌&&◌, not, if◌then◌else◌, List, [], ◌∷◌, ◌++◌, map, filter, length, bytes_eq, Option, Some, None, Result, Ok, Err, refl, sym, ◌∙◌, ap, subst}
+use Rattle.std.proofs.Common.{◌≡◌, ℕ, Bool, true, false, ◌||◌, ◌&&◌, not, if◌then◌else◌, List, [], ◌++◌, map, filter, length, Option, Some, None, Ok, refl, sym, ◌∙◌, ap, subst}
 use Rattle.std.specs.List.{list_all}
 use Rattle.mail_names.specs.declared.gate.Gate.{Gate}
 use Rattle.group_expand.specs.Expansion.{expansion, is_closed, closed_of}
-use Rattle.group_expand.specs.Routes.{too_many, closed_met, all_ways}
+use Rattle.group_expand.specs.Routes.{too_many, all_ways}
 use Rattle.group_expand.specs.Ways.{fresh}
 use Rattle.group_expand.specs.declared.way.Way.{Way}
 use Rattle.group_expand.proofs.Growth.{first-filter}
@@ -12,22 +12,20 @@ use Rattle.rule_terms.specs.Forms.{is_rule}
 use Rattle.rule_engine.specs.Run.{distinct}
 use Rattle.mail_plan.specs.Planning.{Input, Continues, is_among, are_distinct, is_gate_among, are_distinct_gates, targets, gates_of, are_named, use_texts, have_moderators, is_release}
 use Rattle.mail_plan.specs.Submission.{Submitted}
-use Rattle.mail_plan.specs.declared.release.Hold.{Hold}
-use Rattle.mail_plan.specs.declared.release.Release.{Release}
 use Rattle.categorizer.specs.declared.parts.Content.{Content}
 use Rattle.categorizer.specs.declared.parts.Draft.{Draft}
 use Rattle.mail_plan.specs.Base.{base_message}
 use Rattle.categorizer.specs.Growth.{ExpansionGrows, PlanGrows}
 use Rattle.categorizer.specs.Organisation.{Organisation, organisation_of}
-use Rattle.categorizer.specs.Plan.{Case, plan, plan_before, gates_before, news, is_target, firsts, kept, beside, judged_in, closed_gates, held_rules, is_new_gate}
-use Rattle.categorizer.specs.Releasing.{draft_texts, items_from, release_from, drafts_of, journaled, letter_of, content, content_of, too_many_content, unknown_now, hold_of, case_of, hub_release}
+use Rattle.categorizer.specs.Plan.{Case, plan, plan_before, gates_before, news, is_target, kept, beside, judged_in, closed_gates, held_rules, is_new_gate}
+use Rattle.categorizer.specs.Releasing.{draft_texts, items_from, release_from, drafts_of, journaled, letter_of, content, content_of, too_many_content, unknown_now, case_of, hub_release}
 use Rattle.categorizer.proofs.Books.{IsRead, is-read}
-use Rattle.categorizer.proofs.Differing.{send_target, draft_targets, targets-drafts, all-targets, among-target, firsts-distinct, filter-within, filter-distinct, left-out, gates-held, gate-within, gate-distinct, gate-out}
+use Rattle.categorizer.proofs.Differing.{send_target, targets-drafts, all-targets, among-target, firsts-distinct, filter-within, filter-distinct, left-out, gates-held, gate-within, gate-distinct, gate-out}
 use Rattle.categorizer.proofs.Expanding.{opens-more, expands}
 use Rattle.categorizer.proofs.Growing.{sent-grows, refused-grow, met-grows}
 use Rattle.categorizer.proofs.Lists.{is_opened, sends_in, met_in}
 use Rattle.categorizer.proofs.Meeting.{AllFew, few-append, few-rules, few-closed, have-moderators, closed-distinct, held-distinct}
-use Rattle.categorizer.proofs.Naming.{and_true, and_parts, named, used_in_order, distinct-fold}
+use Rattle.categorizer.proofs.Naming.{and_true, named, used_in_order, distinct-fold}
 use Rattle.categorizer.proofs.Reading.{has_few, closed-few}
 
 -- the case of a submission that was accepted at a moment

@@ -1,5 +1,5 @@
 -- Leaves, sends and gates in lists.
-use Rattle.std.proofs.Common.{◌≡◌, ℕ, ◌+◌, ◌==◌, Bool, true, false, ◌||◌, ◌&&◌, not, if◌then◌else◌, List, [], ◌∷◌, ◌++◌, map, filter, fold, bytes_eq, refl, sym, ◌∙◌, ap, subst, rules, arith}
+use Rattle.std.proofs.Common.{◌≡◌, ℕ, ◌+◌, Bool, true, false, ◌||◌, if◌then◌else◌, List, [], ◌∷◌, ◌++◌, fold, bytes_eq, refl, sym, ◌∙◌, ap, subst, rules}
 use Rattle.std.specs.List.{list_any}
 use Rattle.std.proofs.lemmas.List.Folds.{list_any-append}
 use Rattle.std.proofs.lemmas.Slice.Eq.{bytes_eq-Decides}
@@ -8,7 +8,6 @@ use Rattle.group_expand.specs.declared.outcome.Leaf.{Leaf}
 use Rattle.mail_plan.specs.Planning.{is_gate_among}
 use Rattle.rule_engine.specs.Gates as engine
 use Rattle.rule_terms.specs.declared.rule.Rule.{Rule}
-use Rattle.rule_engine.specs.declared.recipient.End.{End}
 use Rattle.rule_engine.specs.declared.recipient.Outcome.{Outcome}
 use Rattle.rule_engine.specs.Fate.{fate}
 use Rattle.categorizer.specs.declared.parts.Judged.{Judged}

@@ -1,6 +1,6 @@
 -- The gates that hold: each once, with 1 to 10 moderators.
-use Rattle.std.proofs.Common.{◌≡◌, ℕ, zero, suc, ◌+◌, ◌<◌, ◌≤◌, ◌==◌, nat_le, Bool, true, false, ◌||◌, ◌&&◌, not, if◌then◌else◌, List, [], ◌∷◌, ◌++◌, map, filter, length, bytes_eq, Option, Some, None, refl, sym, ◌∙◌, ap, subst, rules, arith, slice_get}
-use Rattle.std.specs.List.{list_any, list_all}
+use Rattle.std.proofs.Common.{◌≡◌, ℕ, zero, suc, ◌+◌, ◌≤◌, ◌==◌, nat_le, Bool, true, false, ◌||◌, ◌&&◌, not, if◌then◌else◌, List, [], ◌∷◌, ◌++◌, map, filter, length, bytes_eq, refl, sym, ◌∙◌, ap, subst, rules, arith, slice_get}
+use Rattle.std.specs.List.{list_all}
 use Rattle.std.proofs.lemmas.List.Folds.{list_any-append}
 use Rattle.mail_names.specs.declared.gate.Gate.{Gate}
 use Rattle.mail_names.specs.declared.gate.Gate.TheVariants as gates
@@ -23,8 +23,8 @@ use Rattle.categorizer.specs.Plan.{Case, is_held_by, holds_leaf, held_rules, clo
 use Rattle.categorizer.specs.Releasing.{approvers, rule_approvers, hold_of}
 use Rattle.categorizer.proofs.Growing.{same_number}
 use Rattle.categorizer.proofs.Holding.{asks, rule_asks, AsksAt, HeldEnd, fate-held}
-use Rattle.categorizer.proofs.Lists.{is_opened, fate_of, holds_in, held_in, same_bytes, bytes_same, or_left, or_right, or_map}
-use Rattle.categorizer.proofs.Naming.{and_true, and_parts, false_of, of_not, number_same}
+use Rattle.categorizer.proofs.Lists.{is_opened, fate_of, holds_in, held_in, same_bytes, bytes_same, or_left, or_right}
+use Rattle.categorizer.proofs.Naming.{and_true, and_parts, of_not, number_same}
 
 -- 1 to 10
 abbrev pub is_few : List (List ℕ) → Bool

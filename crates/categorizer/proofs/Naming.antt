@@ -1,16 +1,15 @@
 -- Names and texts of a release.
-use Rattle.std.proofs.Common.{◌≡◌, ℕ, ◌+◌, ◌<◌, ◌==◌, nat_lt, Bool, true, false, ◌||◌, ◌&&◌, not, if◌then◌else◌, List, [], ◌∷◌, ◌++◌, map, filter, fold, length, bytes_eq, refl, sym, ◌∙◌, ap, subst, rules, arith}
-use Rattle.std.specs.List.{list_any}
+use Rattle.std.proofs.Common.{◌≡◌, ℕ, ◌+◌, ◌<◌, ◌==◌, nat_lt, Bool, true, false, ◌||◌, ◌&&◌, not, if◌then◌else◌, List, [], ◌∷◌, ◌++◌, fold, length, bytes_eq, refl, sym, ◌∙◌, subst, rules, arith}
 use Rattle.std.proofs.lemmas.Grind.{common_steps}
 use Rattle.std.proofs.lemmas.List.Folds.{list_any-append}
 use Rattle.std.proofs.lemmas.Bool.Decides.{nat_tests}
 use Rattle.mail_plan.specs.declared.release.Item.{Item}
 use Rattle.mail_plan.specs.Planning.{is_among, are_distinct, are_named, use_texts}
-use Rattle.rule_engine.specs.Run.{is_text, with_text, distinct, place_of}
+use Rattle.rule_engine.specs.Run.{is_text, with_text, place_of}
 use Rattle.rule_engine.proofs.Placing.{place_of-later, place_of-new, is_text-new}
 use Rattle.categorizer.specs.declared.parts.Draft.{Draft}
 use Rattle.categorizer.specs.Releasing.{draft_texts, items_from}
-use Rattle.categorizer.proofs.Lists.{same_bytes, bytes_same, or_left, or_right}
+use Rattle.categorizer.proofs.Lists.{same_bytes, bytes_same}
 
 pub and_true : (a b : Bool) → a ≡ true → b ≡ true → (a && b) ≡ true
 and_true true b f g = g

@@ -1,15 +1,14 @@
 -- What organisations that were read have: rules of their form, and 1 to 10 moderators where an object is moderated.
-use Rattle.std.proofs.Common.{◌≡◌, ℕ, zero, suc, ◌+◌, ◌<◌, ◌≤◌, ◌==◌, nat_le, nat_lt, Bool, true, false, ◌||◌, ◌&&◌, not, if◌then◌else◌, List, [], ◌∷◌, ◌++◌, map, length, bytes_eq, Option, Some, None, Result, Ok, Err, refl, sym, ◌∙◌, ap, subst, rules, arith, slice_get}
+use Rattle.std.proofs.Common.{◌≡◌, ℕ, zero, suc, ◌+◌, ◌==◌, nat_le, nat_lt, Bool, true, false, ◌||◌, ◌&&◌, not, if◌then◌else◌, List, [], ◌∷◌, ◌++◌, map, length, Option, Some, None, Result, Ok, Err, refl, sym, ap, subst, arith, slice_get}
 use Rattle.std.specs.List.{list_any, list_all}
-use Rattle.std.proofs.lemmas.Bool.{leb-true, le-leb}
 use Rattle.std.proofs.lemmas.Bool.Decides.{nat_tests}
 use Rattle.std.proofs.lemmas.Grind.{common_steps}
 use Rattle.csv.specs.Reading.{default_config, records, strip_bom}
 use Rattle.mail_names.specs.declared.gate.Gate.TheVariants as gates
 use Rattle.mail_names.specs.declared.gate.Gate.{Gate}
 use Rattle.org_directory.specs.Register.{Register, key_at, object_of, object_at, place_of, is_group}
-use Rattle.org_directory.specs.Membership.{is_cleared, object_needs, needs_approval}
-use Rattle.org_directory.specs.Lines.{is_header, line_of, has_none, fits}
+use Rattle.org_directory.specs.Membership.{is_cleared, object_needs}
+use Rattle.org_directory.specs.Lines.{is_header, line_of, has_none}
 use Rattle.org_directory.specs.Reading.{Taken, none_taken, entries_of, keys_of, take_line, take_row, and_then, first_pass, names_well, fault_of, or_else, second_pass, placed, place_or_0, unless_fault, both_passes, register_of}
 use Rattle.org_directory.specs.Register.{among}
 use Rattle.org_directory.specs.declared.draft.Draft.{Draft}

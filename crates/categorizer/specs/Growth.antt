@@ -1,12 +1,12 @@
 -- What grows as gates are opened.
-use Rattle.std.specs.Prelude.{◌≡◌, ℕ, ◌||◌, Bool, true, List, ◌++◌, bytes_eq}
+use Rattle.std.specs.Prelude.{◌≡◌, ℕ, ◌||◌, Bool, true, List, bytes_eq}
 use Rattle.std.specs.List.{list_any}
 use Rattle.mail_names.specs.declared.gate.Gate.{Gate}
 use Rattle.group_expand.specs.declared.outcome.Leaf.{Leaf}
 use Rattle.group_expand.specs.declared.outcome.Expansion.{Expansion}
 use Rattle.mail_plan.specs.Planning.{is_gate_among}
 use Rattle.categorizer.specs.declared.parts.Plan.{Plan}
-use Rattle.categorizer.specs.Plan.{Case, plan, is_target, is_rejected, closed_gates}
+use Rattle.categorizer.specs.Plan.{is_target, is_rejected, closed_gates}
 
 abbrev pub is_leaf : List Leaf → List ℕ → Bool
 is_leaf leaves key = list_any (λ (leaf : Leaf). bytes_eq key leaf.key) leaves

@@ -1,5 +1,5 @@
 -- What is sent, who is rejected and which gates hold, computed afresh for each list of opened gates.
-use Rattle.std.specs.Prelude.{ℕ, ◌+◌, ◌==◌, ◌&&◌, not, Bool, true, false, if◌then◌else◌, List, [], ◌∷◌, ◌++◌, map, filter, fold, Option, Some, None, bytes_eq}
+use Rattle.std.specs.Prelude.{ℕ, ◌+◌, ◌==◌, ◌&&◌, not, Bool, false, if◌then◌else◌, List, [], ◌∷◌, ◌++◌, map, filter, fold, Option, Some, None, bytes_eq}
 use Rattle.std.specs.List.{list_any}
 use Rattle.mail_names.specs.declared.gate.Gate.{Gate}
 use Rattle.mail_names.specs.declared.gate.Gate.TheVariants as gates

@@ -1,6 +1,6 @@
 -- The first release that waits to be categorised is one, and its task has its name.
 use Rattle.std.proofs.Common.{◌≡◌, ℕ, suc, ◌+◌, ◌-◌, Bool, true, false, cond, List, [], ◌∷◌, Option, Some, None, refl, ap, ◌∙◌, sym, arith}
-use Rattle.std.specs.Prelude.{◌==◌, ◌%◌, is_some, option_map, position, slice_get, IfSome, Result, Ok, Err, IfOk}
+use Rattle.std.specs.Prelude.{◌==◌, ◌%◌, is_some, option_map, slice_get, IfSome, Result, Ok, Err, IfOk}
 use Rattle.std.specs.List.{position_from}
 use Rattle.std.proofs.lemmas.Bool.{false≢true}
 use Rattle.std.proofs.lemmas.Iterator.Adapters.{position_from-zero}

@@ -1,5 +1,5 @@
 -- What the hub answers.
-use Rattle.std.specs.Prelude.{ℕ, ◌+◌, ◌-◌, Bool, true, false, if◌then◌else◌, List, length, slice_get, Option, Some, None}
+use Rattle.std.specs.Prelude.{ℕ, ◌+◌, true, false, if◌then◌else◌, List, length, slice_get, Option, Some, None}
 use Rattle.std.specs.List.{list_any}
 use Rattle.mail_names.specs.declared.name.ApprovalName.{ApprovalName}
 use Rattle.mail_names.specs.declared.name.ItemName.{ItemName}

@@ -1,5 +1,5 @@
 -- What a report's bytes tell of it. These readings don't fail: what they give is written again and compared.
-use Rattle.std.specs.Prelude.{◌≡◌, ⊤, ℕ, zero, suc, ◌+◌, ◌-◌, ◌==◌, nat_eq, Bool, List, length, take, drop, codes, decimal, Result, Ok, Err}
+use Rattle.std.specs.Prelude.{◌≡◌, ℕ, zero, suc, ◌+◌, ◌-◌, ◌==◌, nat_eq, Bool, List, length, take, drop, codes, decimal}
 use Rattle.std.specs.List.{flat_map, position_or_len, starts_with}
 use Rattle.mail_names.specs.Names.{name_text}
 use Rattle.mail_message.specs.Lines.{ended}

@@ -1,13 +1,12 @@
 -- What `read_of` gives is what bytes read to.
-use Rattle.std.proofs.Common.{◌≡◌, ◌⊎◌, ℕ, ◌+◌, ◌<◌, ◌≤◌, Bool, true, false, cond, List, [], ◌∷◌, ◌++◌, length, drop, Option, Some, None, Result, Ok, Err, refl, ap, ◌∙◌, sym, subst, arith, append_assoc}
-use Rattle.std.specs.Prelude.{◌==◌, ◌&&◌, ◌||◌, nat_lt}
+use Rattle.std.proofs.Common.{◌≡◌, ℕ, ◌+◌, ◌<◌, ◌≤◌, Bool, true, false, cond, List, [], ◌∷◌, ◌++◌, length, drop, Option, Some, None, Err, refl, ap, ◌∙◌, sym, subst, arith}
+use Rattle.std.specs.Prelude.{◌==◌, ◌&&◌, nat_lt}
 use Rattle.mail_names.specs.Lines.{Lines, lines_of, onto}
-use Rattle.mail_message.specs.Lines.{crlf, begins_with, ended, ended_all, crlf_from, has_crlf, goes_on, Cuts}
-use Rattle.mail_message.specs.Message.{Mail, Reads}
+use Rattle.mail_message.specs.Lines.{ended_all, crlf_from, has_crlf, goes_on, Cuts}
+use Rattle.mail_message.specs.Message.{Reads}
 use Rattle.mail_message.specs.Reading.{with_line}
-use Rattle.mail_message.specs.Faults.{most, Reading, Gives}
+use Rattle.mail_message.specs.Faults.{most, Reading}
 use Rattle.mail_message.specs.ReadOf.{read_from, read_of}
-use Rattle.mail_message.specs.declared.fault.MessageFault.{MessageFault}
 use Rattle.mail_message.specs.declared.fault.MessageFault.TheVariants as faults
 use Rattle.mail_message.proofs.Cut.{or_false, none}
 use Rattle.mail_message.proofs.Beginning.{Begins, begins, goes, reads, ends, breaks, cut_at}

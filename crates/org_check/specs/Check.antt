@@ -1,6 +1,6 @@
 -- What a check of an organisation's text says.
 use Rattle.std.specs.Prelude.{◌≡◌, ⊤, ℕ, Bool, true, false, List, [], ◌∷◌, ◌++◌, length, codes, decimal, Option, Result, Ok, Err}
-use Rattle.std.specs.Io.KnownBytes.{Appends, Consumes, IsAtEnd}
+use Rattle.std.specs.Io.KnownBytes.{Appends, IsAtEnd}
 use Rattle.port_io.specs.Told.{AppendsPrefix}
 use Rattle.org_directory.specs.Register.{Register}
 use Rattle.org_directory.specs.Reading.{register_of}

@@ -1,5 +1,5 @@
 -- The two parts of an organisation's text: the directory, and behind the first line %% the rules.
-use Rattle.std.specs.Prelude.{ℕ, zero, suc, ◌+◌, ◌==◌, ◌&&◌, not, length, Bool, true, if◌then◌else◌, List, [], ◌∷◌, ◌++◌, take, drop, get_or, Option, Some, None}
+use Rattle.std.specs.Prelude.{ℕ, zero, suc, ◌+◌, ◌==◌, ◌&&◌, not, length, Bool, true, if◌then◌else◌, List, [], ◌∷◌, take, drop, get_or, Option, Some, None}
 use Rattle.std.specs.List.{starts_with}
 
 -- the length of the line %% that stands first, ended by LF or CR LF, or 0

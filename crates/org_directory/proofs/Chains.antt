@@ -1,12 +1,12 @@
 -- Chains of members: a chain can be made one without a repeated key, which is short.
-use Rattle.std.specs.Prelude.{◌≡◌, ◌<◌, ◌≤◌, ◌+◌, ℕ, zero, suc, Bool, true, false, ◌||◌, List, [], ◌∷◌, ◌++◌, ◌⊎◌, length, map, Option, Some, None, ◌↔◌, unwrap_or, refl}
+use Rattle.std.specs.Prelude.{◌≡◌, ◌<◌, ◌≤◌, ◌+◌, ℕ, zero, suc, Bool, true, false, ◌||◌, List, [], ◌∷◌, ◌++◌, ◌⊎◌, length, map, Option, Some, None, unwrap_or, refl}
 use Rattle.std.proofs.Common.{sym, ◌∙◌, ap, subst, inl, inr, arith, rules, eqb}
 use Rattle.std.proofs.lemmas.List.{length-map}
 use Rattle.std.proofs.lemmas.Map.Steps.{length-le_from_distinct_below}
 use Rattle.std.specs.List.{list_any, IsDistinct, AllByRecursion}
 use Rattle.std.specs.Str.{bytes_eq}
 use Rattle.org_directory.specs.Register.{Register, among, key_at, keys_at, members_in, members_of, place_of, object_at}
-use Rattle.org_directory.specs.Membership.{Chain, In, InIsComputed, leads, is_in}
+use Rattle.org_directory.specs.Membership.{Chain, In, InIsComputed, leads}
 use Rattle.org_directory.proofs.Keys.{same_key, key_is_itself}
 use Rattle.org_directory.proofs.Places.{below-place, found-below}
 

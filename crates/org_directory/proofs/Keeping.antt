@@ -1,16 +1,15 @@
 -- What the first pass keeps, and the directory that it gives.
-use Rattle.std.specs.Prelude.{◌≡◌, ◌≢◌, ◌<◌, ◌≤◌, ◌+◌, ◌==◌, ℕ, zero, suc, Bool, true, false, not, cond, if◌then◌else◌, nat_lt, ◌||◌, ◌&&◌, List, [], ◌∷◌, ◌++◌, ◌⊎◌, codes, length, map, position, slice_get, slice_index_or, sum_by, unwrap_or, is_some, Option, Some, None, All, Result, Ok, Err, refl}
+use Rattle.std.specs.Prelude.{◌≡◌, ◌≢◌, ◌≤◌, ◌+◌, ◌==◌, ℕ, zero, suc, Bool, true, false, not, cond, if◌then◌else◌, nat_lt, ◌||◌, ◌&&◌, List, [], ◌∷◌, ◌++◌, ◌⊎◌, codes, length, map, slice_get, Option, Some, None, Result, Ok, Err, refl}
 use Rattle.std.proofs.Common.{sym, ◌∙◌, ap, subst, inl, inr, arith, rules, length-append}
 use Rattle.std.proofs.lemmas.List.{length-map, map-append}
 use Rattle.std.proofs.lemmas.List.Sums.{sum_by-append}
-use Rattle.std.specs.List.{list_any, list_all, position_from}
+use Rattle.std.specs.List.{list_any, position_from}
 use Rattle.std.proofs.lemmas.Iterator.Adapters.{position_from-zero}
-use Rattle.std.proofs.lemmas.List.Quantifiers.{position-Some}
 use Rattle.std.specs.Str.{bytes_eq}
-use Rattle.org_directory.specs.Register.{Register, IsSound, InRange, AllBelow, among, is_group, place_of}
+use Rattle.org_directory.specs.Register.{among, is_group}
 use Rattle.mail_names.specs.Key.{lower}
 use Rattle.org_directory.specs.Lines.{answer_in, column, domain_in, fits, has_none, is_domain_name, key_in, keys_in, kind_in, line_of, object_in, object_line, says_nothing, tell_in}
-use Rattle.org_directory.specs.Drafts.{Fits, IsKept, taken_of}
+use Rattle.org_directory.specs.Drafts.{Fits, IsKept}
 use Rattle.csv.specs.Reading.{default_config, records, strip_bom}
 use Rattle.org_directory.specs.Reading.{Taken, and_then, both_passes, entries_of, first_pass, keys_of, none_taken, place_in, placed, register_of, take_line, take_row, Fails}
 use Rattle.org_directory.specs.declared.draft.Draft.{Draft}
@@ -23,7 +22,6 @@ use Rattle.org_directory.specs.declared.object.Kind.{Kind}
 use Rattle.org_directory.specs.declared.object.Tell.{Tell}
 use Rattle.org_directory.specs.declared.object.Object.{Object}
 use Rattle.org_directory.proofs.Keys.{key_is_itself}
-use Rattle.org_directory.proofs.Mapped.{position-map}
 
 -- a line that names an object fits
 abbrev pub line_fits : Option Line → Bool

@@ -1,5 +1,5 @@
 -- Look-ups in a list that another list is mapped to.
-use Rattle.std.specs.Prelude.{◌≡◌, ◌+◌, ℕ, Bool, false, if◌then◌else◌, not, cond, nat_lt, List, [], ◌∷◌, ◌++◌, ◌||◌, length, map, position, Option, Some, None, refl}
+use Rattle.std.specs.Prelude.{◌≡◌, ◌+◌, ℕ, Bool, false, if◌then◌else◌, not, cond, nat_lt, List, [], ◌∷◌, ◌++◌, ◌||◌, length, map, position, Some, None, refl}
 use Rattle.std.proofs.Common.{sym, ◌∙◌, ap}
 use Rattle.std.specs.List.{list_any, prefix_len, position_or_len}
 use Rattle.std.proofs.lemmas.List.{length-map, map-append}

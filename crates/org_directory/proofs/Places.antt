@@ -1,6 +1,6 @@
 -- Keys and their places.
-use Rattle.std.specs.Prelude.{◌≡◌, ◌<◌, ℕ, suc, zero, Bool, true, List, [], ◌∷◌, length, position, Option, Some, None, slice_get, get_or, refl}
-use Rattle.std.proofs.Common.{sym, ◌∙◌, ap, subst, arith}
+use Rattle.std.specs.Prelude.{◌≡◌, ◌<◌, ℕ, suc, zero, true, List, [], ◌∷◌, length, position, Some, slice_get, get_or, refl}
+use Rattle.std.proofs.Common.{sym, ap, subst, arith}
 use Rattle.std.specs.Str.{bytes_eq}
 use Rattle.std.proofs.lemmas.List.Quantifiers.{position-Some}
 use Rattle.org_directory.specs.Register.{Register, IsSound, key_at, key_or_none, keys_at, members_in, members_of, object_at, object_of, place_of}

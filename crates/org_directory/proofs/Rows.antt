@@ -1,9 +1,9 @@
 -- The records of a text, one at a time: each takes a byte.
-use Rattle.std.specs.Prelude.{◌≡◌, ◌<◌, ◌≤◌, ◌+◌, ◌==◌, ◌&&◌, ◌||◌, ℕ, zero, suc, Bool, true, false, if◌then◌else◌, List, [], ◌∷◌, ◌++◌, length, Option, Some, None, refl}
+use Rattle.std.specs.Prelude.{◌≡◌, ◌<◌, ◌≤◌, ◌+◌, ◌==◌, ℕ, zero, suc, Bool, true, false, if◌then◌else◌, List, [], ◌∷◌, ◌++◌, length, Some, None, refl}
 use Rattle.std.proofs.Common.{sym, ◌∙◌, ap, subst, arith}
 use Rattle.csv.specs.declared.parser.Action.{Action}
 use Rattle.csv.specs.declared.parser.State.{State}
-use Rattle.csv.specs.Machine.{Read, ends_at_end, ends_with, in_field, is_byte, is_end, next_record, start_field, start_record, step, fields_after, field_after}
+use Rattle.csv.specs.Machine.{Read, ends_at_end, ends_with, in_field, is_end, next_record, start_field, start_record, step, fields_after, field_after}
 use Rattle.csv.specs.Reading.{Reached, default_config, records_from, records_next}
 use Rattle.csv.specs.declared.parser.State.TheVariants as st
 use Rattle.csv.specs.declared.parser.Action.TheVariants as act

@@ -1,9 +1,8 @@
 -- Where the second pass finds no fault, the directory is sound.
-use Rattle.std.specs.Prelude.{◌≡◌, ◌<◌, ◌≤◌, ◌+◌, ℕ, zero, suc, Bool, true, false, if◌then◌else◌, ◌&&◌, List, [], ◌∷◌, length, map, position, slice_get, slice_index_or, unwrap_or, is_some, Option, Some, None, All, refl}
+use Rattle.std.specs.Prelude.{◌≡◌, ◌<◌, ◌≤◌, ℕ, zero, suc, Bool, true, false, if◌then◌else◌, ◌&&◌, List, [], ◌∷◌, length, map, position, slice_get, slice_index_or, unwrap_or, is_some, Option, Some, None, All, refl}
 use Rattle.std.proofs.Common.{sym, ◌∙◌, ap, subst, arith}
 use Rattle.std.proofs.lemmas.List.{length-map}
 use Rattle.std.proofs.lemmas.List.Quantifiers.{position-Some}
-use Rattle.std.specs.List.{list_all}
 use Rattle.std.specs.Str.{bytes_eq}
 use Rattle.org_directory.specs.Register.{Register, IsSound, InRange, AllBelow, is_group, place_of}
 use Rattle.org_directory.specs.Lines.{has_none}

@@ -1,5 +1,5 @@
 -- What the first pass keeps.
-use Rattle.std.specs.Prelude.{◌≡◌, ◌≤◌, ℕ, Bool, false, List, [], length, slice_get, Option, Some, None, Result, Ok, Err}
+use Rattle.std.specs.Prelude.{◌≡◌, ◌≤◌, ℕ, false, [], length, slice_get, Some, Result, Ok, Err}
 use Rattle.org_directory.specs.Register.{is_group}
 use Rattle.org_directory.specs.Reading.{Taken, entries_of, keys_of, place_in, Fails}
 use Rattle.org_directory.specs.declared.draft.Draft.{Draft}

@@ -6,7 +6,6 @@ use Rattle.csv.specs.Records.{field_at}
 use Rattle.mail_names.specs.Key.{key_of, is_empty, is_key_byte, lower}
 use Rattle.mail_names.specs.declared.key.NameFault.{NameFault}
 use Rattle.org_directory.specs.Register.{among, is_group}
-use Rattle.org_directory.specs.declared.draft.Draft.{Draft}
 use Rattle.org_directory.specs.declared.draft.Line.{Line}
 use Rattle.org_directory.specs.declared.draft.Line.TheVariants as lines
 use Rattle.org_directory.specs.declared.object.Kind.{Kind}

@@ -3,7 +3,6 @@ use Rattle.std.proofs.Common.{◌≡◌, ℕ, ◌+◌, Bool, true, false, if◌t
 use Rattle.std.specs.Prelude.{◌||◌}
 use Rattle.std.proofs.lemmas.Grind.{common_steps}
 use Rattle.mail_names.specs.declared.gate.Gate.{Gate}
-use Rattle.mail_message.specs.Message.{Mail}
 use Rattle.rule_terms.specs.declared.action.Action.{Action}
 use Rattle.rule_terms.specs.declared.rule.Rule.{Rule}
 use Rattle.rule_match.specs.Applies.{Setting, applies}
@@ -12,9 +11,8 @@ use Rattle.rule_engine.specs.declared.recipient.MadeCopy.{MadeCopy}
 use Rattle.rule_engine.specs.declared.recipient.End.{End}
 use Rattle.rule_engine.specs.declared.recipient.End.TheVariants as ends
 use Rattle.rule_engine.specs.declared.recipient.Progress.{Progress}
-use Rattle.rule_engine.specs.declared.recipient.Outcome.{Outcome}
-use Rattle.rule_engine.specs.Fate.{Effect, Edited, CopyMade, SentOn, Refused, Asks, act, is_one_of, Stage, stage, goes_on, ends_with, unless_ended, and_then, now, after_effect, after_actions, after_rule, after_rules, after_stop, keep, start, outcome_at, outcome_of, fate}
-use Rattle.rule_engine.specs.Growth.{Continues, HeldGrows, EndGrows, OutcomeGrows, FatesGrow}
+use Rattle.rule_engine.specs.Fate.{Effect, Edited, CopyMade, SentOn, Refused, Asks, act, is_one_of, Stage, stage, goes_on, ends_with, unless_ended, and_then, now, after_effect, after_actions, after_rule, after_rules, after_stop, start, outcome_at, outcome_of}
+use Rattle.rule_engine.specs.Growth.{Continues, OutcomeGrows, FatesGrow}
 
 -- what a rule holds, for a fold under way
 pub record HeldGoes (opened : List Gate) (rule : ℕ) (before after : Stage) : Type 0 where

@@ -1,5 +1,5 @@
 -- The index of texts.
-use Rattle.std.proofs.Common.{◌≡◌, ◌<◌, ◌≤◌, ◌+◌, ℕ, Bool, true, false, ◌||◌, List, [], ◌∷◌, ◌++◌, length, Option, Some, None, refl, sym, ◌∙◌, ap, subst, bytes_eq, get_or, arith, length-append}
+use Rattle.std.proofs.Common.{◌≡◌, ◌<◌, ◌+◌, ℕ, Bool, true, false, ◌||◌, List, [], ◌∷◌, ◌++◌, length, Option, Some, None, refl, sym, ◌∙◌, ap, subst, bytes_eq, arith, length-append}
 use Rattle.std.specs.Prelude.{slice_get}
 use Rattle.std.specs.List.{list_any}
 use Rattle.std.specs.BTreeMap.{BTreeMap}
@@ -9,7 +9,7 @@ use Rattle.std.proofs.lemmas.Option.{slice_get-get_or}
 use Rattle.std.proofs.lemmas.Slice.Eq.{bytes_eq-Decides}
 use Rattle.std.proofs.Math.Seq.{get_or-append_seam}
 use Rattle.sha2.specs.Sha256.{sha256}
-use Rattle.rule_engine.specs.Run.{is_text, place_of}
+use Rattle.rule_engine.specs.Run.{is_text}
 use Rattle.rule_engine.specs.Index.{place_at, found_or, stands_at, StandsFirst, Leads, LeadsTo, IsIndex}
 use Rattle.rule_engine.proofs.Placing.{place_of-append, place_of-new, is_text-new}
 

@@ -14,7 +14,6 @@ use Rattle.rule_terms.specs.declared.action.Fallback.TheVariants as fallbacks
 use Rattle.rule_terms.specs.declared.rule.Rule.{Rule}
 use Rattle.rule_match.specs.Applies.{Setting, applies}
 use Rattle.rule_engine.specs.Gates.{is_opened}
-use Rattle.rule_engine.specs.declared.recipient.MadeCopy.{MadeCopy}
 use Rattle.rule_engine.specs.declared.recipient.End.{End}
 use Rattle.rule_engine.specs.declared.recipient.End.TheVariants as ends
 use Rattle.rule_engine.specs.declared.recipient.Progress.{Progress}

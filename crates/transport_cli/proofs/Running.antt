@@ -1,5 +1,5 @@
 -- What follows a session, counted from its beginning.
-use Rattle.std.proofs.Common.{◌≡◌, ◌⊎◌, ℕ, ◌+◌, ◌-◌, ◌^◌, ◌≤◌, min, Bool, List, [], ◌∷◌, ◌++◌, Option, arith, sym, subst}
+use Rattle.std.proofs.Common.{◌≡◌, ◌⊎◌, ℕ, ◌+◌, ◌≤◌, Bool, List, [], ◌∷◌, ◌++◌, Option, arith, sym, subst}
 use Rattle.port_io.specs.Causes.{Rose, RoseBy}
 use Rattle.mail_plan.specs.declared.entry.Entry.{Entry}
 use Rattle.port_io.specs.Told.{Gave}

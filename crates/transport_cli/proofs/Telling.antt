@@ -1,8 +1,7 @@
 -- A session over an office, told of the history that its hub stands for.
-use Rattle.std.proofs.Common.{◌≡◌, ◌⊎◌, ℕ, ◌+◌, ◌-◌, ◌^◌, ◌≤◌, min, List, [], ◌∷◌, ◌++◌, length, Option, Some, None, Result, Ok, Err, refl, ap, ◌∙◌, sym, subst, inl, inr, arith}
-use Rattle.std.specs.Io.KnownBytes.{Appends, Consumes, IsAtEnd}
+use Rattle.std.proofs.Common.{◌≡◌, ℕ, ◌+◌, ◌≤◌, List, [], ◌∷◌, ◌++◌, length, Option, Ok, Err, refl, ap, ◌∙◌, sym, subst, inl, inr, arith}
 use Rattle.port_io.specs.Causes.{Rose}
-use Rattle.port_io.specs.Told.{AppendsPrefix, Gave}
+use Rattle.port_io.specs.Told.{AppendsPrefix}
 use Rattle.mail_plan.specs.declared.entry.Entry.{Entry}
 use Rattle.mail_plan.specs.declared.intake.IntakeFault.TheVariants as faults
 use Rattle.mail_plan.specs.declared.intake.IntakeStep.{IntakeStep}
@@ -19,8 +18,8 @@ use Rattle.smtp_front.specs.declared.react.Phase.TheVariants as phases
 use Rattle.smtp_front.specs.declared.session_end.SessionEnd.{SessionEnd}
 use Rattle.smtp_front.specs.declared.session_end.SessionEnd.TheVariants as ends
 use Rattle.smtp_front.specs.Events.{Held, nothing, fed}
-use Rattle.smtp_front.specs.Turns.{Turn, Steps, Did, end_at}
-use Rattle.smtp_front.specs.Sessions.{Stays, Waits, Closes, Begins, Halts, Breaks, Starves, BreaksStarving, Overruns, BreaksOverrunning, Rests, WentOn, Greets, BreaksGreeting, Spoke}
+use Rattle.smtp_front.specs.Turns.{Turn, Steps, Did}
+use Rattle.smtp_front.specs.Sessions.{Stays, Waits, Closes, Begins, Halts, Breaks, WentOn, Greets, Spoke}
 use Rattle.transport_cli.specs.Answers.{HistoryGives}
 use Rattle.transport_cli.specs.HubSetup.{hub_setup}
 

@@ -1,5 +1,5 @@
 -- The answers that a history gives to a session's submissions.
-use Rattle.std.specs.Prelude.{◌≡◌, ◌+◌, List, ◌++◌, length, Result, Ok, Err}
+use Rattle.std.specs.Prelude.{◌≡◌, ◌+◌, List, ◌++◌, length, Ok, Err}
 use Rattle.mail_plan.specs.declared.entry.Entry.{Entry}
 use Rattle.mail_plan.specs.declared.intake.IntakeFault.TheVariants as faults
 use Rattle.mail_plan.specs.declared.intake.IntakeStep.{IntakeStep}

@@ -1,4 +1,4 @@
-use Rattle.std.proofs.Common.{◌≡◌, ◌++◌, ◌==◌, ℕ, List, drop, map, filter, fold}
+use Rattle.std.proofs.Common.{◌≡◌, ◌++◌, drop}
 use Rattle.categorizer.proofs.copies.copied_sends.Given as goal
 
 abbrev pub invariant-loop-send : goal.invariant-loop-send

@@ -1,4 +1,4 @@
-use Rattle.std.proofs.Common.{◌≡◌, ◌++◌, ◌==◌, ℕ, List, drop, map, filter, fold}
+use Rattle.std.proofs.Common.{◌≡◌, ◌++◌, drop, map}
 use Rattle.categorizer.specs.Releasing.{request_to}
 use Rattle.categorizer.proofs.drafts.add_asked.Given as goal
 

@@ -1,4 +1,4 @@
-use Rattle.std.proofs.Common.{◌≡◌, ◌++◌, ◌==◌, ℕ, List, drop, map, filter, fold}
+use Rattle.std.proofs.Common.{◌≡◌, drop}
 use Rattle.categorizer.specs.Releasing.{with_notices}
 use Rattle.categorizer.proofs.drafts.add_notices.Given as goal
 

@@ -1,4 +1,4 @@
-use Rattle.std.proofs.Common.{◌≡◌, ◌++◌, ◌==◌, ℕ, List, drop, map, filter, fold}
+use Rattle.std.proofs.Common.{◌≡◌, ◌++◌, drop, map}
 use Rattle.categorizer.specs.Releasing.{hold_of}
 use Rattle.categorizer.proofs.holds.holds_of.Given as goal
 

@@ -1,4 +1,4 @@
-use Rattle.std.proofs.Common.{◌≡◌, ◌++◌, ◌==◌, ℕ, List, drop, map, filter, fold}
+use Rattle.std.proofs.Common.{◌≡◌, ◌++◌, drop}
 use Rattle.org_directory.specs.Register.{keys_at}
 use Rattle.categorizer.proofs.holds.keys_at.Given as goal
 

@@ -1,4 +1,4 @@
-use Rattle.std.proofs.Common.{◌≡◌, ◌++◌, ◌==◌, ℕ, List, drop, map, filter, fold}
+use Rattle.std.proofs.Common.{◌≡◌, ◌++◌, drop}
 use Rattle.categorizer.specs.Releasing.{rule_losses}
 use Rattle.categorizer.proofs.losses.rule_losses.Given as goal
 

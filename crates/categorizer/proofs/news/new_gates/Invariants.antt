@@ -1,4 +1,4 @@
-use Rattle.std.proofs.Common.{◌≡◌, ◌++◌, ◌==◌, ℕ, List, drop, map, filter, fold}
+use Rattle.std.proofs.Common.{◌≡◌, ◌++◌, drop, filter}
 use Rattle.categorizer.specs.Plan.{is_new_gate}
 use Rattle.categorizer.proofs.news.new_gates.Given as goal
 

@@ -1,4 +1,4 @@
-use Rattle.std.proofs.Common.{◌≡◌, ◌++◌, ◌==◌, ℕ, List, drop, map, filter, fold}
+use Rattle.std.proofs.Common.{◌≡◌, ◌++◌, drop, filter}
 use Rattle.std.specs.Prelude.{not}
 use Rattle.categorizer.specs.declared.parts.Rejection.{Rejection}
 use Rattle.categorizer.specs.Plan.{is_rejected}

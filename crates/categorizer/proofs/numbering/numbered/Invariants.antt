@@ -1,4 +1,4 @@
-use Rattle.std.proofs.Common.{◌≡◌, ◌++◌, ◌==◌, ℕ, List, drop, map, filter, fold}
+use Rattle.std.proofs.Common.{◌≡◌, ◌++◌, ℕ, List, drop, fold}
 use Rattle.rule_engine.specs.Run.{with_text, distinct}
 use Rattle.categorizer.specs.Releasing.{draft_texts, items_from}
 use Rattle.categorizer.proofs.numbering.numbered.Given as goal

@@ -1,4 +1,4 @@
-use Rattle.std.proofs.Common.{◌≡◌, ◌++◌, ◌==◌, ℕ, List, drop, map, filter, fold}
+use Rattle.std.proofs.Common.{◌≡◌, ◌++◌, drop}
 use Rattle.categorizer.specs.Plan.{held_rules}
 use Rattle.categorizer.proofs.planning.add_held_rules.Given as goal
 

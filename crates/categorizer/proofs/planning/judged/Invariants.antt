@@ -1,4 +1,4 @@
-use Rattle.std.proofs.Common.{◌≡◌, ◌++◌, ◌==◌, ℕ, List, drop, map, filter, fold}
+use Rattle.std.proofs.Common.{◌≡◌, ◌++◌, drop}
 use Rattle.std.specs.Option.{option_copied}
 use Rattle.rule_match.specs.Applies.{Setting}
 use Rattle.categorizer.specs.Plan.{judged}

@@ -1,4 +1,4 @@
-use Rattle.std.proofs.Common.{◌≡◌, ◌++◌, ◌==◌, ℕ, List, drop, map, filter, fold}
+use Rattle.std.proofs.Common.{◌≡◌, ◌++◌, drop}
 use Rattle.categorizer.specs.Plan.{rejections}
 use Rattle.categorizer.proofs.planning.rejections.Given as goal
 

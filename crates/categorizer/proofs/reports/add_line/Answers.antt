@@ -1,7 +1,6 @@
-use Rattle.std.proofs.Common.{List, ◌++◌, Option, ap, ◌∙◌, sym, append-nil, refl, subst, ◌≡◌}
+use Rattle.std.proofs.Common.{◌++◌, Option, ap, ◌∙◌, sym, append-nil, refl, subst, ◌≡◌}
 use Rattle.std.specs.Prelude.{OnOk}
 use Rattle.std.proofs.lemmas.Option.{slice_get_past, slice_get_read}
-use Rattle.journal_report.specs.declared.parts.Line.{Line}
 use Rattle.categorizer.specs.declared.parts.Send.{Send}
 use Rattle.categorizer.specs.Releasing.{line_at}
 use Rattle.categorizer.proofs.reports.add_line.Goals as goal

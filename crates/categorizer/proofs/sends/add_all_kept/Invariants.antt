@@ -1,4 +1,4 @@
-use Rattle.std.proofs.Common.{◌≡◌, ◌++◌, ◌==◌, ℕ, List, drop, map, filter, fold}
+use Rattle.std.proofs.Common.{◌≡◌, drop, fold}
 use Rattle.categorizer.specs.Plan.{with_send, kept}
 use Rattle.categorizer.proofs.sends.add_all_kept.Given as goal
 

@@ -1,4 +1,4 @@
-use Rattle.std.proofs.Common.{◌≡◌, ◌++◌, ◌==◌, ℕ, List, drop, map, filter, fold}
+use Rattle.std.proofs.Common.{◌≡◌, drop, map, fold}
 use Rattle.categorizer.specs.Plan.{with_send, copy_send}
 use Rattle.categorizer.proofs.sends.add_copies.Given as goal
 

@@ -1,4 +1,4 @@
-use Rattle.std.proofs.Common.{◌≡◌, ◌+◌, [], refl}
+use Rattle.std.proofs.Common.{◌+◌, refl}
 use Rattle.hub_core.specs.Setup.{setup_of}
 use Rattle.hub_core.specs.Ending.{all_told}
 use Rattle.hub_core.proofs.Telling.{none_left}

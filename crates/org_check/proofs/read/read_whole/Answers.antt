@@ -1,4 +1,4 @@
-use Rattle.std.proofs.Common.{◌≡◌, ◌++◌, take}
+use Rattle.std.proofs.Common.{◌++◌, take}
 use Rattle.port_io.proofs.Pieces.{Consumes-twice}
 use Rattle.org_check.proofs.read.read_whole.Goals as goal
 

@@ -1,7 +1,6 @@
-use Rattle.std.proofs.Common.{Bor, List, ℕ, ◌≡◌, ◌∙◌, sym, ap, subst, refl, inl, inr, Some, [], ◌∷◌}
+use Rattle.std.proofs.Common.{Bor, List, ℕ, ◌∙◌, sym, ap, subst, refl, inl, inr, Some, []}
 use Rattle.csv.specs.Reading.{Reached, default_config, records, strip_bom}
 use Rattle.csv.specs.Records.{fields_of}
-use Rattle.csv.specs.declared.parser.State.TheVariants as st
 use Rattle.csv.proofs.ReadFacts.{rows-end, rows-more}
 use Rattle.org_directory.specs.Drafts.{taken_of}
 use Rattle.org_directory.specs.Reading.{first_pass, none_taken}

@@ -1,4 +1,4 @@
-use Rattle.std.proofs.Common.{◌≡◌, true, Some, sym, ◌∙◌, ap}
+use Rattle.std.proofs.Common.{◌≡◌, Some, sym, ◌∙◌, ap}
 use Rattle.csv.specs.Records.{fields_of}
 use Rattle.org_directory.specs.Lines.{line_of}
 use Rattle.org_directory.specs.declared.draft.Line.{Line}

@@ -1,4 +1,4 @@
-use Rattle.std.proofs.Common.{◌≡◌, ◌+◌, ◌-◌, length}
+use Rattle.std.proofs.Common.{◌+◌, ◌-◌, length}
 use Rattle.org_directory.proofs.Seeking.{Seeking, unmarked}
 use Rattle.org_directory.proofs.membership.is_led_to.Given as goal
 

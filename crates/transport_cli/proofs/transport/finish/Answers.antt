@@ -1,13 +1,11 @@
-use Rattle.std.proofs.Common.{◌≡◌, ◌⊎◌, ◌≤◌, ◌+◌, ◌++◌, [], ◌∷◌, Bool, List, inl, inr, refl, ap, subst, sym, ◌∙◌, arith, Err, append-nil}
+use Rattle.std.proofs.Common.{◌≡◌, ◌+◌, ◌++◌, [], List, inl, inr, refl, ap, ◌∙◌, arith, Err, append-nil}
 use Rattle.mail_plan.specs.declared.entry.Entry.{Entry}
 use Rattle.hub_core.specs.Standing.{Standing, standing, usual}
-use Rattle.queue_store.specs.Ready.{Adds, Stops}
 use Rattle.queue_store.specs.Calls.{after_entries, entries_categorise, entries_turn}
 use Rattle.queue_store.proofs.Stepping.{adds-along, stops-along}
 use Rattle.queue_store.proofs.Turning.{state-goes, adds-joined, stops-joined, stops-more}
-use Rattle.transport_cli.specs.declared.status.Status.{Status}
 use Rattle.transport_cli.specs.HubSetup.{hub_setup}
-use Rattle.transport_cli.specs.Run.{Finishes, entries_finish}
+use Rattle.transport_cli.specs.Run.{entries_finish}
 use Rattle.transport_cli.proofs.Running.{rose_within, cut_status}
 use Rattle.transport_cli.proofs.transport.finish.Goals as goal
 

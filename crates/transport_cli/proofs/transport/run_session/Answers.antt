@@ -1,4 +1,4 @@
-use Rattle.std.proofs.Common.{◌≡◌, ◌∙◌, ◌≤◌, ◌+◌, [], ap, inl, inr, arith, Err, sym, subst}
+use Rattle.std.proofs.Common.{◌∙◌, ap, inl, inr, arith, Err, sym, subst}
 use Rattle.hub_core.specs.declared.limits.Limits.{Limits}
 use Rattle.hub_core.specs.Setup.{setup_of}
 use Rattle.hub_core.specs.Items.{IsHistory}

@@ -1,4 +1,4 @@
-use Rattle.std.proofs.Common.{rules, ◌≡◌, ◌+◌, ◌≤◌, ◌++◌, ◌∷◌, [], length, ap, arith}
+use Rattle.std.proofs.Common.{rules, ◌≡◌, ◌+◌, ◌++◌, ◌∷◌, [], length, ap, arith}
 use Rattle.mail_plan.specs.Submission.{Submitted}
 use Rattle.hub_core.specs.Standing.{live_bytes}
 use Rattle.hub_core.proofs.Room.{bytes-push}
