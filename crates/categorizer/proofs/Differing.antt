@@ -8,7 +8,8 @@ use Rattle.org_directory.specs.Register.{Register}
 use Rattle.rule_terms.specs.declared.rule.Rule.{Rule}
 use Rattle.mail_plan.specs.declared.release.Hold.{Hold}
 use Rattle.mail_plan.specs.declared.release.ItemKind.TheVariants as kinds
-use Rattle.mail_plan.specs.Planning.{same_gate, is_among, are_distinct, is_gate_among, are_distinct_gates, is_version, targets, gates_of}
+use Rattle.mail_names.specs.Gates.{same_gate}
+use Rattle.mail_plan.specs.Planning.{is_among, are_distinct, is_gate_among, are_distinct_gates, is_version, targets, gates_of}
 use Rattle.rule_engine.specs.Run.{with_text}
 use Rattle.categorizer.specs.declared.parts.Content.{Content}
 use Rattle.categorizer.specs.declared.parts.Draft.{Draft}

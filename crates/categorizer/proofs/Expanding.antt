@@ -13,7 +13,8 @@ use Rattle.group_expand.specs.Ways.{fresh}
 use Rattle.group_expand.proofs.Growth.{leaves-stay, closed-stay, first-filter}
 use Rattle.rule_engine.specs.Gates as engine
 use Rattle.rule_engine.specs.Gates.{OpensMore}
-use Rattle.mail_plan.specs.Planning.{same_gate, is_gate_among}
+use Rattle.mail_names.specs.Gates.{same_gate}
+use Rattle.mail_plan.specs.Planning.{is_gate_among}
 use Rattle.categorizer.specs.Plan.{closed_gates}
 use Rattle.categorizer.specs.Growth.{is_leaf, ExpansionGrows}
 use Rattle.categorizer.proofs.Lists.{is_opened, same_bytes, or_left, or_right}

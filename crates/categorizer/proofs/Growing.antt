@@ -5,7 +5,7 @@ use Rattle.std.proofs.lemmas.List.Folds.{list_any-append}
 use Rattle.mail_names.specs.declared.gate.Gate.{Gate}
 use Rattle.mail_names.specs.declared.gate.Gate.TheVariants as gates
 use Rattle.group_expand.specs.declared.outcome.Leaf.{Leaf}
-use Rattle.mail_plan.specs.Planning.{same_gate}
+use Rattle.mail_names.specs.Gates.{same_gate}
 use Rattle.rule_terms.specs.declared.rule.Rule.{Rule}
 use Rattle.rule_engine.specs.declared.recipient.MadeCopy.{MadeCopy}
 use Rattle.rule_engine.specs.declared.recipient.End.{End}

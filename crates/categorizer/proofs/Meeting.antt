@@ -17,7 +17,8 @@ use Rattle.rule_terms.specs.Forms as forms
 use Rattle.rule_terms.specs.Forms.{is_within, is_name, is_action, are_terms, are_actions, go_together, is_rule}
 use Rattle.rule_engine.specs.declared.recipient.End.{End}
 use Rattle.rule_engine.specs.declared.recipient.End.TheVariants as ends
-use Rattle.mail_plan.specs.Planning.{same_gate, are_distinct_gates, is_gate_among, have_moderators}
+use Rattle.mail_names.specs.Gates.{same_gate}
+use Rattle.mail_plan.specs.Planning.{are_distinct_gates, is_gate_among, have_moderators}
 use Rattle.categorizer.specs.declared.parts.Judged.{Judged}
 use Rattle.categorizer.specs.Plan.{Case, is_held_by, holds_leaf, held_rules, closed_gates}
 use Rattle.categorizer.specs.Releasing.{approvers, rule_approvers, hold_of}

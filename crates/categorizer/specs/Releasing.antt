@@ -21,6 +21,7 @@ use Rattle.rule_terms.specs.declared.action.Action.{Action}
 use Rattle.rule_terms.specs.declared.action.Action.TheVariants as actions
 use Rattle.rule_terms.specs.declared.rule.Rule.{Rule}
 use Rattle.rule_engine.specs.Run.{distinct, place_of}
+use Rattle.moderation.specs.declared.approval.TheConstants.{APPROVAL_TIME}
 use Rattle.mail_notices.specs.About.{about_of}
 use Rattle.mail_notices.specs.Text.{notice_text}
 use Rattle.mail_notices.specs.declared.kinds.Notice.{Notice}
@@ -198,7 +199,7 @@ with_reports letter sender sends drafts (taken ∷ others) =
 -- An approval is asked for within two days.
 abbrev pub asked : Letter → ℕ → Hold → Notice
 asked letter gate hold =
-    notices.Asked (record { submission = letter.about.number; release = letter.release; gate = gate }) hold.label (letter.made + 172800)
+    notices.Asked (record { submission = letter.about.number; release = letter.release; gate = gate }) hold.label (letter.made + APPROVAL_TIME)
 
 -- behind the drafts one text for all moderators of a hold, which has the name of the first of these items
 abbrev pub with_request : Letter → List Draft → ℕ → Hold → List Draft

@@ -2,25 +2,18 @@
 ghost use Rattle.std.specs.Prelude.{◌≡◌, ◌≤◌, ◌++◌, ◌∷◌, [], length, map, option_copied, IfOk, OnOk};
 ghost use Rattle.categorizer.specs.Releasing.{name_at, text_at, version_of, request_to, asked, with_request, with_requests, notice_of, with_notice, with_notices, with_told, drafts_of};
 
-use crate::copies::{copied_keys, copied_why};
 use crate::parts::{Content, Draft, Letter, Loss, Send};
 use crate::reports::add_reports;
 use journal_report::Why;
 use journal_rules::Taken;
-use mail_names::{ApprovalName, Bytes, ItemName, Items, Key, LAST_MOMENT, Mark, NoMemory};
+use mail_names::{
+    ApprovalName, Bytes, ItemName, Items, Key, LAST_MOMENT, Mark, NoMemory, copied_keys,
+    short_count,
+};
 use mail_notices::{Notice, notice};
 use mail_plan::{Hold, ItemKind};
+use moderation::APPROVAL_TIME;
 use std::alloc::Global;
-
-/// How long an approval may take, in seconds: two days.
-const APPROVAL_TIME: u64 = 172_800;
-
-// So many that the number needs more than 32 bits find no memory.
-fn number(count: usize) -> Result<u32, NoMemory>
-    ensures { IfOk result (λ number. number ≡ count) }
-{
-    u32::try_from(count).map_err(|_| NoMemory)
-}
 
 /// The name of an item of a release.
 pub fn name_at(number: u64, release: u32, place: u32) -> ItemName
@@ -45,7 +38,7 @@ fn text_at(
     requires { letter.now.made ≤ LAST_MOMENT }
     ensures { IfOk result (λ text. text ≡ text_at letter.now place to.now what.now) }
 {
-    let place = number(place)?;
+    let place = short_count(place)?;
     let name = name_at(letter.about.number, letter.release, place);
     notice(alloc, &name, to, letter.made, &letter.about, what)
 }
@@ -58,7 +51,7 @@ fn versions(alloc: Global, sends: &[Send]) -> Result<Items<Draft>, NoMemory>
         drafts.push(Draft {
             folder: send.target.copy(alloc)?,
             kind: ItemKind::Version,
-            why: copied_why(alloc, &send.why)?,
+            why: send.why.copy(alloc)?,
             text: Bytes::of(alloc, send.text.as_slice())?,
         })?;
     }
@@ -126,7 +119,7 @@ fn add_requests(
     ensures { OnOk result (drafts.new ≡ with_requests letter.now drafts.old 0 holds.now) }
 {
     for (i, hold) in holds.iter().enumerate() {
-        let gate = number(i)?;
+        let gate = short_count(i)?;
         add_request(alloc, letter, drafts, gate, hold)?;
     }
     Ok(())

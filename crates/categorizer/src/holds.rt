@@ -4,8 +4,8 @@ ghost use Rattle.org_directory.specs.Register.{object_of, keys_at, InRange};
 ghost use Rattle.categorizer.specs.Releasing.{approvers, rule_approvers, rule_name, object_approvers, object_tell, object_label, rule_label, hold_of};
 
 use crate::copies::copied_keys;
-use mail_names::{Bytes, Gate, Items, Key, NoMemory};
-use mail_plan::{Hold, copied_gate};
+use mail_names::{Bytes, Gate, Items, Key, NoMemory, copied_gate};
+use mail_plan::Hold;
 use org_directory::{Directory, Object, Tell};
 use rule_terms::{Action, Rule};
 use std::alloc::Global;

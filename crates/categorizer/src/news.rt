@@ -8,8 +8,7 @@ ghost use Rattle.categorizer.specs.Plan.{is_target, is_rejected, is_new_gate, di
 use crate::copies::{copied_rejection, copied_send};
 use crate::parts::{Plan, Rejection, Send};
 use crate::sends::is_target;
-use mail_names::{Gate, Items, Key, NoMemory};
-use mail_plan::{copied_gate, same_gate};
+use mail_names::{Gate, Items, Key, NoMemory, copied_gate, same_gate};
 use std::alloc::Global;
 
 fn is_among(gate: &Gate, gates: &[Gate]) -> bool

@@ -3,10 +3,9 @@ ghost use Rattle.std.specs.Prelude.{◌≡◌, ◌++◌, ◌∷◌, [], ℕ, Lis
 ghost use Rattle.rule_engine.specs.Run.{distinct, with_text};
 ghost use Rattle.categorizer.specs.Releasing.{draft_texts, item_of, items_from};
 
-use crate::copies::copied_why;
 use crate::drafts::name_at;
 use crate::parts::Draft;
-use mail_names::{Bytes, ItemName, Items, NoMemory};
+use mail_names::{Bytes, ItemName, Items, NoMemory, short_count};
 use mail_plan::Item;
 use rule_engine::Texts;
 use std::alloc::Global;
@@ -25,7 +24,7 @@ fn add_item(
 {
     let text = texts.place(alloc, &draft.text)?;
     let folder = draft.folder.copy(alloc)?;
-    let why = copied_why(alloc, &draft.why)?;
+    let why = draft.why.copy(alloc)?;
     items.push(Item {
         name,
         folder,
@@ -34,12 +33,6 @@ fn add_item(
         text,
     })?;
     Ok(())
-}
-
-fn number(count: usize) -> Result<u32, NoMemory>
-    ensures { IfOk result (λ number. number ≡ count) }
-{
-    u32::try_from(count).map_err(|_| NoMemory)
 }
 
 /// The distinct texts of the drafts in the order of first use, and the items with their names.
@@ -55,7 +48,7 @@ pub fn numbered(
     let mut texts = Texts::new(alloc);
     let mut items = Items::new(alloc);
     for (i, draft) in drafts.iter().enumerate() {
-        let name = name_at(submission, release, number(i)?);
+        let name = name_at(submission, release, short_count(i)?);
         add_item(alloc, name, draft, &mut texts, &mut items)?;
     }
     Ok((texts.into_items(), items))

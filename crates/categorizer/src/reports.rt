@@ -3,21 +3,13 @@ ghost use Rattle.std.specs.Prelude.{◌≡◌, ◌≤◌, ◌++◌, ◌∷◌, [
 ghost use Rattle.categorizer.specs.Releasing.{line_at, lines_at, head_at, report_at, with_reports, journaled};
 
 use crate::HubOrg;
-use crate::copies::copied_why;
 use crate::drafts::name_at;
 use crate::parts::{Draft, Letter, Send};
 use journal_report::{Line, ReportHead, Why, report};
 use journal_rules::{Taken, mailboxes};
-use mail_names::{Bytes, Items, Key, LAST_MOMENT, NoMemory};
+use mail_names::{Bytes, Items, Key, LAST_MOMENT, NoMemory, short_count};
 use mail_plan::ItemKind;
 use std::alloc::Global;
-
-// So many that the number needs more than 32 bits find no memory.
-fn number(count: usize) -> Result<u32, NoMemory>
-    ensures { IfOk result (λ number. number ≡ count) }
-{
-    u32::try_from(count).map_err(|_| NoMemory)
-}
 
 fn targets_of(alloc: Global, sends: &[Send]) -> Result<Items<Key>, NoMemory>
     ensures { IfOk result (λ targets. targets ≡ map (λ send. send.target) sends.now) }
@@ -40,7 +32,7 @@ pub fn journaled(
 {
     let targets = targets_of(alloc, sends)?;
     let targets = targets.as_slice();
-    let _count = number(targets.len())?;
+    let _count = short_count(targets.len())?;
     mailboxes(alloc, org.book(), org.directory(), sender, targets)
 }
 
@@ -48,7 +40,7 @@ fn add_send(alloc: Global, send: &Send, lines: &mut Items<Line>) -> Result<(), N
     ensures { OnOk result (lines.new ≡ lines.old ++ line_at (Some send.now)) }
 {
     let target = send.target.copy(alloc)?;
-    let why = copied_why(alloc, &send.why)?;
+    let why = send.why.copy(alloc)?;
     Ok(lines.push(Line { target, why })?)
 }
 
@@ -117,7 +109,7 @@ fn report_at(
     requires { letter.now.made ≤ LAST_MOMENT }
     ensures { IfOk result (λ draft. draft ≡ report_at letter.now (option_copied sender.entry) sends.now place taken.now) }
 {
-    let head = head_at(alloc, letter, sender, number(place)?, &taken.mailbox)?;
+    let head = head_at(alloc, letter, sender, short_count(place)?, &taken.mailbox)?;
     let lines = lines_at(alloc, sends, taken.targets.as_slice())?;
     let original = letter.about.original.as_slice();
     let text = report(alloc, &head, lines.as_slice(), original)?;

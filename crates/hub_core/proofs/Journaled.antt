@@ -17,7 +17,8 @@ use Rattle.mail_plan.specs.declared.release.Release.{Release}
 use Rattle.hub_core.specs.Setup.{Setup}
 use Rattle.hub_core.specs.Approvals.{changed}
 use Rattle.hub_core.specs.Mail.{Mail, is_uncategorised}
-use Rattle.hub_core.specs.Standing.{Standing, start, standing, state_after, last_moment, mail_of, is_moment}
+use Rattle.mail_names.specs.Dates.{last_moment}
+use Rattle.hub_core.specs.Standing.{Standing, start, standing, state_after, mail_of, is_moment}
 use Rattle.hub_core.specs.Items.{Accepted, Past, no_past, past, past_after, accepted, release_for, opening_of, with_opening, IsStep, AreSteps, IsHistory}
 use Rattle.hub_core.specs.Journal.{categorised_of, IsJournaled}
 use Rattle.hub_core.proofs.Categorised.{WasCategorised, categorised-stays, not-categorised, now-categorised}

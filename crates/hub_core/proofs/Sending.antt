@@ -6,7 +6,8 @@ use Rattle.mail_names.specs.declared.name.ItemName.{ItemName}
 use Rattle.mail_names.specs.declared.name.Mark.{Mark}
 use Rattle.mail_names.specs.declared.name.Mark.TheVariants as marks
 use Rattle.hub_core.specs.declared.queue.QueuedItem.{QueuedItem}
-use Rattle.hub_core.specs.Standing.{mark_number, same_name, is_named}
+use Rattle.mail_names.specs.Names.{mark_number, same_name}
+use Rattle.hub_core.specs.Standing.{is_named}
 use Rattle.hub_core.specs.Items.{Among}
 
 first : (p : QueuedItem → Bool) (y : QueuedItem) (ys : List QueuedItem) (x : QueuedItem) (b : Bool) → p y ≡ b → cond b (Some y) (find p ys) ≡ Some x →

@@ -24,7 +24,8 @@ use Rattle.hub_core.specs.Setup.{Texts, Setup}
 use Rattle.hub_core.specs.Approvals.{Stage, asks_in}
 use Rattle.hub_core.specs.Mail.{Mail, asking_at, is_taken}
 use Rattle.hub_core.specs.Ending.{is_told, approval_name, end_notice, told, end_told, run_out_told, asks_told, stages_told, all_told}
-use Rattle.hub_core.specs.Standing.{Standing, start, state_after, mail_of, mark_number, same_name, queued, queued_all, refused_told, decided_told, told_by}
+use Rattle.mail_names.specs.Names.{mark_number, same_name}
+use Rattle.hub_core.specs.Standing.{Standing, start, state_after, mail_of, queued, queued_all, refused_told, decided_told, told_by}
 use Rattle.hub_core.specs.Items.{Accepted, accepted, release_for, items_to, items_of, notices_from, items}
 use Rattle.hub_core.proofs.Sending.{both, name_is}
 use Rattle.hub_core.proofs.Settled.{names, Settled, settled-stays, All, all-both, run-out-all, asks-all, stages-all, all-all, Ends, told-ends}

@@ -1,7 +1,8 @@
 -- Where the input of an outcome differs from the one that is asked.
 use Rattle.std.specs.Prelude.{◌+◌, ◌==◌, ℕ, Bool, if◌then◌else◌, List, [], ◌∷◌, bytes_eq, option_map, Option, Some, None}
 use Rattle.mail_names.specs.declared.gate.Gate.{Gate}
-use Rattle.mail_plan.specs.Planning.{Input, same_gate}
+use Rattle.mail_names.specs.Gates.{same_gate}
+use Rattle.mail_plan.specs.Planning.{Input}
 use Rattle.mail_plan.specs.Submission.{Submitted}
 use Rattle.mail_plan.specs.declared.submission.Origin.{Origin}
 use Rattle.mail_plan.specs.declared.submission.Origin.TheVariants as origins

@@ -1,6 +1,7 @@
 -- The submissions that are remembered, and what happens to them.
 use Rattle.std.specs.Prelude.{◌≡◌, ◌≤◌, ℕ, suc, nat_lt, is_some, Bool, true, false, if◌then◌else◌, List, [], ◌∷◌, ◌++◌, length, map, position, slice_get, slice_set, option_map, Option, Some, None}
 use Rattle.std.specs.List.{list_any}
+use Rattle.mail_names.specs.Dates.{last_moment}
 use Rattle.mail_names.specs.declared.name.ApprovalName.{ApprovalName}
 use Rattle.moderation.specs.Approval.{decide_answer}
 use Rattle.moderation.specs.declared.approval.Decision.{Decision}
@@ -118,7 +119,7 @@ is_taken decision = false
 -- what is kept of a submission, beside its value: its moment is one, its organisation is there as long as it is needed, it
 -- has a release more than gates that were opened, and no more than u32 numbers
 pub record IsLive (mail : Mail) : Type 0 where
-  pub moment : mail.accepted_at ≤ 253402300799
+  pub moment : mail.accepted_at ≤ last_moment
   pub needed : is_some mail.org ≡ list_any stage_open mail.stages
   pub releases : length mail.stages ≡ suc (length mail.opened)
   pub few : length mail.stages ≤ 4294967295

@@ -1,10 +1,10 @@
 -- The state that a history leaves, and what it answers.
 use Rattle.std.specs.Prelude.{◌≡◌, ◌&&◌, ◌==◌, not, nat_le, nat_lt, ℕ, ◌+◌, ◌-◌, ◌%◌, min, max, Bool, true, false, if◌then◌else◌, List, [], ◌∷◌, ◌++◌, length, map, fold, position, slice_get, bytes_eq, unwrap_or, Option, Some, None, is_some, Result, Ok, Err}
 use Rattle.std.specs.List.{list_any}
+use Rattle.mail_names.specs.Dates.{last_moment}
+use Rattle.mail_names.specs.Names.{same_name}
 use Rattle.mail_names.specs.declared.name.ItemName.{ItemName}
-use Rattle.mail_names.specs.declared.name.Mark.{Mark}
 use Rattle.mail_names.specs.declared.name.ApprovalName.{ApprovalName}
-use Rattle.mail_names.specs.declared.name.Mark.TheVariants as marks
 use Rattle.moderation.specs.declared.approval.Decision.{Decision}
 use Rattle.moderation.specs.declared.approval.Verdict.{Verdict}
 use Rattle.moderation.specs.declared.approval.Verdict.TheVariants as verdicts
@@ -42,25 +42,11 @@ start setup = record { limits = setup.limits; moment = 0; epoch = 0; newest = fi
 abbrev pub usual : Limits
 usual = record { log = 1099511627776; live = 100000; bytes = 2147483648; epochs = 64 }
 
--- 9999-12-31T23:59:59Z
-abbrev pub last_moment : ℕ
-last_moment = 253402300799
-
 -- the moment of a command at this clock
 abbrev pub now_of : Standing → ℕ → ℕ
 now_of s clock = min (max clock s.moment) last_moment
 
-abbrev pub mark_number : Mark → ℕ
-mark_number marks.Plain = 0
-mark_number marks.Gate = 1
-mark_number marks.Delay = 2
-mark_number marks.Failure = 3
-
-abbrev pub same_name : ItemName → ItemName → Bool
-same_name a b =
-    (a.submission == b.submission)
-    && ((a.release == b.release) && ((a.place == b.place) && (mark_number a.mark == mark_number b.mark)))
-
+-- the item has this name
 abbrev pub is_named : ItemName → QueuedItem → Bool
 is_named name item = same_name item.name name
 

@@ -2,9 +2,10 @@
 ghost use Rattle.std.specs.Prelude.{◌≡◌, ◌<◌, [], length, remove, IfOk, find, map, unwrap_or, slice_get, option_copied};
 ghost use Rattle.std.specs.List.{list_any, position_from};
 ghost use Rattle.hub_core.specs.declared.queue.QueuedItem.{QueuedItem};
-ghost use Rattle.hub_core.specs.Standing.{mark_number, same_name, is_named, without, queued};
+ghost use Rattle.mail_names.specs.Names.{mark_number, same_name};
+ghost use Rattle.hub_core.specs.Standing.{is_named, without, queued};
 
-use mail_names::{Bytes, ItemName, Items, Key, Mark, NoMemory};
+use mail_names::{Bytes, ItemName, Items, Key, NoMemory, same_name};
 use mail_plan::Item;
 use std::alloc::Global;
 use std::collections::VecDeque;
@@ -55,28 +56,6 @@ pub struct QueuedItem {
     pub name: ItemName,
     pub folder: Key,
     pub text: SharedBytes,
-}
-
-/// The number of a mark.
-pub fn mark_number(mark: Mark) -> u8
-    ensures { result ≡ mark_number mark }
-{
-    match mark {
-        Mark::Plain => 0,
-        Mark::Gate => 1,
-        Mark::Delay => 2,
-        Mark::Failure => 3,
-    }
-}
-
-/// Whether these are one name.
-pub fn same_name(a: &ItemName, b: &ItemName) -> bool
-    ensures { result ≡ same_name a.now b.now }
-{
-    a.submission == b.submission
-        && a.release == b.release
-        && a.place == b.place
-        && mark_number(a.mark) == mark_number(b.mark)
 }
 
 fn is_named(item: &QueuedItem, name: &ItemName) -> bool

@@ -39,6 +39,7 @@ pub struct State<T: Planner> {
 impl<T: Planner> Model for State<T> {
     ghost use Rattle.std.specs.Prelude.{◌≡◌, ◌≤◌};
     ghost use Rattle.std.specs.Arc.{arc_value};
+    ghost use Rattle.mail_names.specs.Dates.{last_moment};
     ghost use Rattle.hub_core.specs.Setup.{texts_of};
     ghost use Rattle.hub_core.specs.Standing.{Standing, live_bytes};
 
@@ -46,7 +47,7 @@ impl<T: Planner> Model for State<T> {
 
     ghost view = { λ s. record { limits = s.limits; moment = s.moment; epoch = s.epoch; newest = texts_of T.directory_of T.rules_of (arc_value s.newest); live = s.live; waiting = s.waiting.items } };
 
-    ghost invariant = { λ s. (s.moment ≤ 253402300799) × (s.bytes ≡ live_bytes s.live) };
+    ghost invariant = { λ s. (s.moment ≤ last_moment) × (s.bytes ≡ live_bytes s.live) };
 }
 
 // The organisation that stands before any other.
@@ -104,7 +105,7 @@ impl<T: Planner> State<T> {
     pub fn now(&self, clock: u64) -> u64
         ensures value { result ≡ now_of self.now clock }
         ensures later { self.now.moment ≤ result }
-        ensures last { result ≤ 253402300799 }
+        ensures last { result ≤ LAST_MOMENT }
     {
         clock.max(self.moment).min(LAST_MOMENT)
     }

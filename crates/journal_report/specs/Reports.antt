@@ -1,6 +1,7 @@
 -- Which reports there are.
 use Rattle.std.specs.Prelude.{⊤, ℕ, ◌^◌, ◌<◌, ◌==◌, ◌&&◌, not, nat_le, nat_lt, Bool, true, false, List, [], ◌∷◌, length, IfSome, Result, Ok, Err}
 use Rattle.std.specs.List.{list_all, AllByRecursion}
+use Rattle.mail_names.specs.Dates.{last_moment}
 use Rattle.mail_names.specs.Key.{IsKey}
 use Rattle.mail_names.specs.Names.{IsItemName}
 use Rattle.journal_report.specs.declared.why.Why.{Why}
@@ -22,10 +23,10 @@ has_group whys.Direct = true
 has_group (whys.Copied rule) = true
 has_group (whys.Redirected rule) = true
 
--- 1 to 2^32 - 1 targets, a moment by 9999-12-31T23:59:59Z, a clean id and subject
+-- 1 to 2^32 - 1 targets, a moment by the last one, a clean id and subject
 abbrev pub is_report : ReportHead → List Line → Bool
 is_report head lines =
-    nat_le head.moment 253402300799 && (is_clean head.message_id && (is_clean head.subject
+    nat_le head.moment last_moment && (is_clean head.message_id && (is_clean head.subject
     && (nat_lt 0 (length lines) && (nat_lt (length lines) (2 ^ 32) && list_all (λ line. has_group line.why) lines))))
 
 -- what the types of a head's fields hold

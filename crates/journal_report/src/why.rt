@@ -3,7 +3,7 @@ ghost use Rattle.std.specs.Prelude.{◌≡◌, ◌++◌, IfOk, OnOk, OnErr};
 ghost use Rattle.std.specs.List.{flat_map};
 ghost use Rattle.journal_report.specs.Why.{hop, route_text, why_text};
 
-use mail_names::{Bytes, Items, Key, NoMemory};
+use mail_names::{Bytes, Items, Key, NoMemory, copied_keys};
 use std::alloc::Global;
 
 /// Why a message goes to a target.
@@ -18,16 +18,6 @@ pub enum Why {
     Copied { rule: u32 },
     /// The rule at this place, counted from 0, sends it the message in place of another target.
     Redirected { rule: u32 },
-}
-
-fn copies(alloc: Global, keys: &[Key]) -> Result<Items<Key>, NoMemory>
-    ensures { IfOk result (λ copies. copies ≡ keys.now) }
-{
-    let mut copies = Items::new(alloc);
-    for key in keys {
-        copies.push(key.copy(alloc)?)?;
-    }
-    Ok(copies)
 }
 
 // Adds each key behind " > ".
@@ -61,7 +51,7 @@ impl Why {
         match self {
             Why::Direct => Ok(Why::Direct),
             Why::Via { groups } => Ok(Why::Via {
-                groups: copies(alloc, groups.as_slice())?,
+                groups: copied_keys(alloc, groups.as_slice())?,
             }),
             Why::Copied { rule } => Ok(Why::Copied { rule: *rule }),
             Why::Redirected { rule } => Ok(Why::Redirected { rule: *rule }),

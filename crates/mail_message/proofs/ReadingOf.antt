@@ -5,7 +5,7 @@ use Rattle.mail_names.specs.Lines.{Lines, lines_of, onto}
 use Rattle.mail_message.specs.Lines.{ended_all, crlf_from, has_crlf, goes_on, Cuts}
 use Rattle.mail_message.specs.Message.{Reads}
 use Rattle.mail_message.specs.Reading.{with_line}
-use Rattle.mail_message.specs.Faults.{most, Reading}
+use Rattle.mail_message.specs.Faults.{most_octets, Reading}
 use Rattle.mail_message.specs.ReadOf.{read_from, read_of}
 use Rattle.mail_message.specs.declared.fault.MessageFault.TheVariants as faults
 use Rattle.mail_message.proofs.Cut.{or_false, none}
@@ -114,7 +114,7 @@ by_line bytes raws count line lines left false on off = off refl
 
 -- the header is read on, behind what was read of it
 reading_from : (bytes : List ℕ) (raws : List (List ℕ)) (count : ℕ) (rest : List ℕ) (lines : List (List ℕ)) (left : List ℕ) →
-    length bytes ≤ most → Begins bytes raws count rest → (lines_of rest).lines ≡ lines → (lines_of rest).left ≡ left →
+    length bytes ≤ most_octets → Begins bytes raws count rest → (lines_of rest).lines ≡ lines → (lines_of rest).left ≡ left →
     Reading bytes (read_from count raws lines left)
 reading_from bytes raws count rest [] left small begun same behind = (small, ends bytes raws count rest begun (no_lines rest same))
 reading_from bytes raws count rest ([] ∷ lines) left small begun same behind =
@@ -127,18 +127,18 @@ reading_from bytes raws count rest ((b ∷ line) ∷ lines) left small begun sam
     (λ e. reading_from bytes (with_line raws (b ∷ line)) (count + 1) f.back lines left small (goes bytes raws count rest (b ∷ line) f.back begun f.cut e) f.more (f.left ∙ behind))
     (λ e. (small, breaks bytes raws count rest (b ∷ line) f.back begun f.cut (omega arith) e))
 
-by_size : (bytes : List ℕ) (t : Bool) → nat_lt most (length bytes) ≡ t →
+by_size : (bytes : List ℕ) (t : Bool) → nat_lt most_octets (length bytes) ≡ t →
     Reading bytes (cond t (Err faults.TooLarge) (read_from 0 [] (lines_of bytes).lines (lines_of bytes).left))
 by_size bytes true e = above e
   where
-    above : nat_lt most (length bytes) ≡ true → most < length bytes
+    above : nat_lt most_octets (length bytes) ≡ true → most_octets < length bytes
     above e = grind arith
 by_size bytes false e = reading_from bytes [] 0 bytes (lines_of bytes).lines (lines_of bytes).left (below e) (begins bytes) refl refl
   where
-    below : nat_lt most (length bytes) ≡ false → length bytes ≤ most
+    below : nat_lt most_octets (length bytes) ≡ false → length bytes ≤ most_octets
     below e = grind arith
 
 -- what is given is what the bytes read to
 pub reading_of : (bytes : List ℕ) → Reading bytes (read_of bytes)
 unfolding read_of
-reading_of bytes = by_size bytes (nat_lt most (length bytes)) refl
+reading_of bytes = by_size bytes (nat_lt most_octets (length bytes)) refl

@@ -4,7 +4,7 @@ use Rattle.mail_names.specs.Lines.{lines_of}
 use Rattle.mail_message.specs.Lines.{ended_all, goes_on}
 use Rattle.mail_message.specs.Message.{Mail}
 use Rattle.mail_message.specs.Reading.{with_line}
-use Rattle.mail_message.specs.Faults.{most}
+use Rattle.mail_message.specs.Faults.{most_octets}
 use Rattle.mail_message.specs.declared.fault.MessageFault.{MessageFault}
 use Rattle.mail_message.specs.declared.fault.MessageFault.TheVariants as faults
 
@@ -19,5 +19,5 @@ read_from count raws ((b ∷ line) ∷ lines) left =
 -- the message that bytes are, or why they are none
 unfoldable pub read_of : List ℕ → Result Mail MessageFault
 read_of bytes =
-    if nat_lt most (length bytes) then Err faults.TooLarge
+    if nat_lt most_octets (length bytes) then Err faults.TooLarge
     else read_from 0 [] (lines_of bytes).lines (lines_of bytes).left

@@ -23,8 +23,8 @@ use mail_names::{Bytes, NoMemory};
 use std::alloc::Global;
 use std::marker::Model;
 
-/// The most bytes of a message.
-const MOST: usize = 1_048_576;
+/// The most octets of a message.
+pub const MOST_OCTETS: usize = 1_048_576;
 
 /// A message, which contracts see as its fields, each with its raw bytes, and its body.
 #[derive(Drop)]
@@ -61,7 +61,7 @@ impl Message {
     fn parsed(alloc: Global, bytes: &[u8]) -> Result<Message, MessageFault>
         ensures { Answers bytes.now result }
     {
-        if bytes.len() > MOST {
+        if bytes.len() > MOST_OCTETS {
             return Err(MessageFault::TooLarge);
         }
         let mut fields = Vec::new(alloc);

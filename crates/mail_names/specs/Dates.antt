@@ -1,7 +1,12 @@
 -- The text of a moment, by jiff's calendar.
 use Rattle.std.specs.Prelude.{ℕ, zero, suc, ◌+◌, ◌-◌, ◌/◌, ◌%◌, Bool, if◌then◌else◌, List, [], ◌∷◌, pos, ◌+ℤ◌, ◌-ℤ◌, int_le, unsigned_abs, slice_index_or, codes}
 use Rattle.std.specs.List.{flat_map}
+use Rattle.mail_names.specs.declared.dates.TheConstants.{LAST_MOMENT}
 use Rattle.jiff_core.specs.Calendar.{days_from_civil, weekday_number}
+
+-- 9999-12-31T23:59:59Z, in seconds since 1970
+abbrev pub last_moment : ℕ
+last_moment = LAST_MOMENT
 
 -- the greatest number up to n that passes, or 0
 unfoldable pub greatest : (ℕ → Bool) → ℕ → ℕ

@@ -1,4 +1,5 @@
 pub mod Dates
+pub mod Gates
 pub mod Key
 pub mod Lines
 pub mod Names

@@ -1,5 +1,8 @@
 -- The text of an item's name.
-use Rattle.std.specs.Prelude.{◌≡◌, ◌<◌, ◌^◌, ℕ, Bool, true, false, not, ◌==◌, List, [], ◌∷◌, ◌++◌, decimal}
+use Rattle.std.specs.Prelude.{◌≡◌, ◌<◌, ◌^◌, ℕ, Bool, true, false, not, ◌==◌, ◌&&◌, List, [], ◌∷◌, ◌++◌, decimal}
+use Rattle.std.specs.Ordering.{nat_cmp}
+use Rattle.std.specs.declared.cmp.Ordering.{Ordering}
+use Rattle.std.specs.declared.cmp.Ordering.TheVariants as orders
 use Rattle.std.specs.Char.{is_ascii_digit}
 use Rattle.mail_names.specs.declared.name.ItemName.{ItemName}
 use Rattle.mail_names.specs.declared.name.ApprovalName.{ApprovalName}
@@ -12,6 +15,38 @@ mark_text marks.Plain = []
 mark_text marks.Gate = 45 ∷ 103 ∷ []
 mark_text marks.Delay = 45 ∷ 100 ∷ []
 mark_text marks.Failure = 45 ∷ 117 ∷ []
+
+-- the place of a mark among marks
+abbrev pub mark_number : Mark → ℕ
+mark_number marks.Plain = 0
+mark_number marks.Gate = 1
+mark_number marks.Delay = 2
+mark_number marks.Failure = 3
+
+-- all four parts are the same
+abbrev pub same_name : ItemName → ItemName → Bool
+same_name a b =
+    (a.submission == b.submission)
+    && ((a.release == b.release) && ((a.place == b.place) && (mark_number a.mark == mark_number b.mark)))
+
+-- the first comparison where it tells, and else the next
+abbrev pub first_that_tells : Ordering → Ordering → Ordering
+first_that_tells orders.Less next = orders.Less
+first_that_tells orders.Equal next = next
+first_that_tells orders.Greater next = orders.Greater
+
+-- Names stand in the order of their submissions, then releases, places and marks.
+abbrev pub name_order : ItemName → ItemName → Ordering
+name_order a b =
+    first_that_tells (nat_cmp a.submission b.submission)
+    (first_that_tells (nat_cmp a.release b.release)
+    (first_that_tells (nat_cmp a.place b.place) (nat_cmp (mark_number a.mark) (mark_number b.mark))))
+
+-- Approvals' names stand in the order of their submissions, then releases and gates.
+abbrev pub approval_order : ApprovalName → ApprovalName → Ordering
+approval_order a b =
+    first_that_tells (nat_cmp a.submission b.submission)
+    (first_that_tells (nat_cmp a.release b.release) (nat_cmp a.gate b.gate))
 
 -- three numbers with - between them
 abbrev pub numbers_text : ℕ → ℕ → ℕ → List ℕ

@@ -2,6 +2,7 @@
 #![tactic(auto)]
 
 mod bytes;
+mod count;
 mod dates;
 mod decimal;
 mod gate;
@@ -12,11 +13,12 @@ mod name;
 mod steps;
 
 pub use bytes::{Bytes, NoMemory};
+pub use count::short_count;
 pub use dates::{LAST_MOMENT, date_text};
-pub use gate::Gate;
+pub use gate::{Gate, copied_gate, same_gate};
 pub use items::Items;
-pub use key::{Key, NameFault, lowered};
-pub use name::{ApprovalName, ItemName, Mark};
+pub use key::{Key, NameFault, copied_keys, lowered};
+pub use name::{ApprovalName, ItemName, Mark, mark_number, same_name};
 pub use steps::Steps;
 
 #[cfg(test)]

@@ -1,6 +1,6 @@
 // The names of items.
 ghost use Rattle.std.specs.Prelude.{◌≡◌, ◌≢◌, ◌++◌, IfOk, OnOk, IfSome, IfNone};
-ghost use Rattle.mail_names.specs.Names.{mark_text, numbers_text, name_text, approval_text, IsItemName, IsApprovalName};
+ghost use Rattle.mail_names.specs.Names.{mark_text, mark_number, same_name, numbers_text, name_text, approval_text, IsItemName, IsApprovalName};
 ghost use Rattle.mail_names.specs.declared.name.ApprovalName.{ApprovalName};
 ghost use Rattle.mail_names.specs.declared.name.ItemName.{ItemName};
 ghost use Rattle.mail_names.specs.declared.name.Mark.{Mark};
@@ -69,6 +69,28 @@ impl Mark {
             Mark::Failure => b"-u",
         }
     }
+}
+
+/// The place of a mark among marks.
+pub fn mark_number(mark: Mark) -> u8
+    ensures { result ≡ mark_number mark }
+{
+    match mark {
+        Mark::Plain => 0,
+        Mark::Gate => 1,
+        Mark::Delay => 2,
+        Mark::Failure => 3,
+    }
+}
+
+/// Whether these are one name.
+pub fn same_name(a: &ItemName, b: &ItemName) -> bool
+    ensures { result ≡ same_name a.now b.now }
+{
+    a.submission == b.submission
+        && a.release == b.release
+        && a.place == b.place
+        && mark_number(a.mark) == mark_number(b.mark)
 }
 
 // Three numbers in decimal.

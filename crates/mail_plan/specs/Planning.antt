@@ -1,6 +1,8 @@
 -- What a planner is asked for, and the form of what it gives.
 use Rattle.std.specs.Prelude.{◌≡◌, ℕ, zero, suc, ◌+◌, ◌==◌, ◌&&◌, not, nat_lt, nat_le, Bool, true, false, if◌then◌else◌, List, [], ◌∷◌, ◌++◌, length, map, filter, take, bytes_eq, codes, Option, Some, None, unwrap_or, slice_get, ◌≤◌, Result, Ok, Err}
 use Rattle.std.specs.List.{list_any}
+use Rattle.mail_names.specs.Dates.{last_moment}
+use Rattle.mail_names.specs.Gates.{same_gate}
 use Rattle.mail_names.specs.declared.gate.Gate.{Gate}
 use Rattle.mail_names.specs.declared.gate.Gate.TheVariants as gates
 use Rattle.mail_names.specs.declared.name.ItemName.{ItemName}
@@ -33,7 +35,7 @@ pub record Input : Type 0 where
 -- what holds of an input by its types: what is submitted can be, and the release is made by the last moment
 pub record IsInput (input : Input) : Type 0 where
   pub submission : IsSubmission input.submission
-  pub made : input.made ≤ 253402300799
+  pub made : input.made ≤ last_moment
 
 -- What a reading answers is what the texts read to, unless memory ran out.
 abbrev pub Gives : {Org : Type 0} → Result Org OrgFault → Result Org OrgFault → Type 0
@@ -46,12 +48,7 @@ Gives (Err faults.NoMemory) read = Unit {0}
 abbrev pub first_directory : List ℕ
 first_directory = codes "key,kind,members,owners,moderated,moderators,bypass,tell" ++ 13 ∷ 10 ∷ []
 
-abbrev pub same_gate : Gate → Gate → Bool
-same_gate (gates.Object key) (gates.Object other) = bytes_eq key other
-same_gate (gates.Object key) (gates.Rule place) = false
-same_gate (gates.Rule place) (gates.Object key) = false
-same_gate (gates.Rule place) (gates.Rule other) = place == other
-
+-- a gate stands among these
 abbrev pub is_gate_among : Gate → List Gate → Bool
 is_gate_among gate gates = list_any (same_gate gate) gates
 

@@ -5,6 +5,7 @@ use Rattle.mail_message.specs.Message.{Mail, field_of}
 use Rattle.mail_message.specs.ReadOf.{read_of}
 use Rattle.mail_message.specs.declared.fault.MessageFault.{MessageFault}
 use Rattle.mail_message.specs.declared.fault.MessageFault.TheVariants as messages
+use Rattle.mail_plan.specs.declared.submission.TheConstants.{MOST_RECIPIENTS}
 use Rattle.mail_plan.specs.declared.submission.Origin.{Origin}
 use Rattle.mail_plan.specs.declared.submission.Origin.TheVariants as origins
 use Rattle.mail_plan.specs.declared.submission.SubmissionFault.{SubmissionFault}
@@ -72,7 +73,7 @@ submission_read s (Err e) = Err (unreadable e)
 abbrev pub submission_of : Origin → Option (List ℕ) → List (List ℕ) → List ℕ → Result Submitted SubmissionFault
 submission_of origin reverse recipients bytes =
     if nat_lt 0 (length recipients)
-    then (if nat_lt 1000 (length recipients) then Err faults.TooManyRecipients
+    then (if nat_lt MOST_RECIPIENTS (length recipients) then Err faults.TooManyRecipients
     else submission_read (record { origin = origin; reverse = reverse; recipients = recipients; bytes = bytes }) (read_of bytes))
     else Err faults.NoRecipients
 

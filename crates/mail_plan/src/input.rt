@@ -4,8 +4,7 @@ ghost use Rattle.std.specs.Arc.{arc_value};
 ghost use Rattle.mail_plan.specs.Planning.{gates_opened, before_at, made_at, input_at, first_input};
 
 use crate::Submission;
-use crate::gates::copied_gate;
-use mail_names::{Gate, Items, LAST_MOMENT, NoMemory};
+use mail_names::{Gate, Items, LAST_MOMENT, NoMemory, copied_gate};
 use std::alloc::Global;
 use std::marker::Model;
 use std::sync::Arc;
@@ -21,13 +20,14 @@ pub struct Opening {
 
 impl Model for Opening {
     ghost use Rattle.std.specs.Prelude.{◌≤◌};
+    ghost use Rattle.mail_names.specs.Dates.{last_moment};
     ghost use Rattle.mail_plan.specs.Planning.{Opening};
 
     ghost Value = { Opening };
 
     ghost view = { λ o. record { gate = o.gate; moment = o.moment } };
 
-    ghost invariant = { λ o. o.moment ≤ 253402300799 };
+    ghost invariant = { λ o. o.moment ≤ last_moment };
 }
 
 impl Opening {
@@ -121,13 +121,14 @@ pub struct ReleaseInput {
 impl Model for ReleaseInput {
     ghost use Rattle.std.specs.Prelude.{◌≤◌};
     ghost use Rattle.std.specs.Arc.{arc_value};
+    ghost use Rattle.mail_names.specs.Dates.{last_moment};
     ghost use Rattle.mail_plan.specs.Planning.{Input};
 
     ghost Value = { Input };
 
     ghost view = { λ i. record { number = i.number; release = i.release; epoch = i.epoch; accepted_at = i.accepted_at; made = i.made; before = i.before; opened = i.opened; submission = arc_value i.submission } };
 
-    ghost invariant = { λ i. (i.accepted_at ≤ 253402300799) × (i.made ≤ 253402300799) };
+    ghost invariant = { λ i. (i.accepted_at ≤ last_moment) × (i.made ≤ last_moment) };
 }
 
 impl ReleaseInput {

@@ -5,7 +5,6 @@ mod base;
 mod entry;
 mod fields;
 mod form;
-mod gates;
 mod holds;
 mod input;
 mod intake;
@@ -19,7 +18,6 @@ mod submission;
 mod text;
 
 pub use entry::Entry;
-pub use gates::{copied_gate, same_gate};
 pub use input::{Opening, ReleaseInput, made_at};
 pub use intake::{Accepted, Intake, IntakeFault, IntakeStep};
 pub use outcome::{Outcome, Task, plan};
@@ -29,7 +27,7 @@ pub use read::{
     get_origin, get_release, get_why,
 };
 pub use release::{End, Hold, Item, ItemKind, Release};
-pub use submission::{Origin, Submission, SubmissionFault};
+pub use submission::{MOST_RECIPIENTS, Origin, Submission, SubmissionFault};
 pub use text::{
     put_approval_name, put_bytes, put_gate, put_item_name, put_key, put_key_option, put_keys,
     put_origin, put_release, put_why,

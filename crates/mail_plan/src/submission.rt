@@ -9,7 +9,7 @@ use std::alloc::Global;
 use std::marker::Model;
 
 /// The most recipients of a submission (RFC 5321 section 4.5.3.1.8 asks for at least 100).
-const MOST_RECIPIENTS: usize = 1000;
+pub const MOST_RECIPIENTS: usize = 1000;
 
 /// How a submission came in.
 #[derive(Drop)]
@@ -56,12 +56,13 @@ pub struct Submission {
 impl Model for Submission {
     ghost use Rattle.mail_plan.specs.Submission.{Submitted, has_message_id, is_readable};
     ghost use Rattle.std.specs.Prelude.{◌≡◌, ◌<◌, ◌≤◌, true, length};
+    ghost use Rattle.mail_plan.specs.declared.submission.TheConstants.{MOST_RECIPIENTS};
 
     ghost Value = { Submitted };
 
     ghost view = { λ s. record { origin = s.origin; reverse = s.reverse; recipients = s.recipients; bytes = s.bytes } };
 
-    ghost invariant = { λ s. (s.has_id ≡ has_message_id s.bytes) × (is_readable s.bytes ≡ true) × (0 < length s.recipients) × (length s.recipients ≤ 1000) };
+    ghost invariant = { λ s. (s.has_id ≡ has_message_id s.bytes) × (is_readable s.bytes ≡ true) × (0 < length s.recipients) × (length s.recipients ≤ MOST_RECIPIENTS) };
 }
 
 fn id_option(value: &Option<Bytes>) -> bool
@@ -173,7 +174,7 @@ impl Submission {
     pub fn recipients(&self) -> &[Key]
         ensures value { result.now ≡ self.now.recipients }
         ensures some { 0 < length result.now }
-        ensures most { length result.now ≤ 1000 }
+        ensures most { length result.now ≤ MOST_RECIPIENTS }
     {
         self.recipients.as_slice()
     }

@@ -1,6 +1,8 @@
 -- Approvals. Moments are seconds since 1970-01-01T00:00:00Z.
 use Rattle.std.specs.Prelude.{⊤, ℕ, ◌+◌, ◌<◌, ◌≤◌, ◌&&◌, nat_le, nat_lt, Bool, true, false, if◌then◌else◌, List, length, position, bytes_eq, Option, Some, None}
+use Rattle.mail_names.specs.Dates.{last_moment}
 use Rattle.mail_names.specs.declared.gate.Gate.{Gate}
+use Rattle.moderation.specs.declared.approval.TheConstants.{APPROVAL_TIME}
 use Rattle.moderation.specs.declared.approval.Verdict.{Verdict}
 use Rattle.moderation.specs.declared.approval.ApprovalState.{ApprovalState}
 use Rattle.moderation.specs.declared.approval.ApprovalState.TheVariants as states
@@ -21,17 +23,17 @@ IsStateOf moderators (states.Decided by verdict) = by < length moderators
 IsStateOf moderators states.Pending = ⊤
 IsStateOf moderators states.Ended = ⊤
 
--- 1 to 10 moderators, made by 9999-12-31T23:59:59Z
+-- 1 to 10 moderators, made by the last moment
 pub record IsApproval (moderators : List (List ℕ)) (made : ℕ) (state : ApprovalState) : Type 0 where
   pub some : 0 < length moderators
   pub few : length moderators ≤ 10
-  pub moment : made ≤ 253402300799
+  pub moment : made ≤ last_moment
   pub by : IsStateOf moderators state
 
 -- a new one: it may be decided for two days
 abbrev pub asked : Gate → List (List ℕ) → ℕ → Asked
 asked gate moderators made =
-    record { gate = gate; moderators = moderators; made = made; deadline = made + 172800; state = states.Pending }
+    record { gate = gate; moderators = moderators; made = made; deadline = made + APPROVAL_TIME; state = states.Pending }
 
 -- the first place of a key among the moderators
 abbrev pub place_of : Asked → List ℕ → Option ℕ

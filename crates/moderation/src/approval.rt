@@ -55,10 +55,11 @@ pub struct Approval {
 impl Model for Approval {
     ghost use Rattle.std.specs.Prelude.{◌+◌};
     ghost use Rattle.moderation.specs.Approval.{Asked, IsApproval};
+    ghost use Rattle.moderation.specs.declared.approval.TheConstants.{APPROVAL_TIME};
 
     ghost Value = { Asked };
 
-    ghost view = { λ a. record { gate = a.gate; moderators = a.moderators; made = a.made; deadline = a.made + 172800; state = a.state } };
+    ghost view = { λ a. record { gate = a.gate; moderators = a.moderators; made = a.made; deadline = a.made + APPROVAL_TIME; state = a.state } };
 
     ghost invariant = { λ a. IsApproval a.moderators a.made a.state };
 }

@@ -4,7 +4,7 @@ ghost use Rattle.sha2.specs.Sha256.{sha256};
 ghost use Rattle.rule_engine.specs.Run.{is_text, place_of, with_text};
 ghost use Rattle.rule_engine.specs.Index.{IsIndex, found_or, place_at, stands_at};
 
-use mail_names::{Bytes, Items, NoMemory};
+use mail_names::{Bytes, Items, NoMemory, short_count};
 use sha2::{Digest, Sha256};
 use std::alloc::Global;
 use std::collections::BTreeMap;
@@ -42,13 +42,6 @@ pub fn find(texts: &[Bytes], text: &Bytes) -> Option<usize>
         }
     }
     None
-}
-
-// So many texts that their places need more than 32 bits find no memory.
-fn number(i: usize) -> Result<u32, NoMemory>
-    ensures { IfOk result (λ number. number ≡ i) }
-{
-    u32::try_from(i).map_err(|_| NoMemory)
 }
 
 fn digest_of(text: &[u8]) -> [u8; 32]
@@ -140,10 +133,10 @@ impl Texts {
     {
         let digest = digest_of(text.as_slice());
         if let Some(i) = find_by(&self.texts, &self.index, &digest, text) {
-            let found = number(i)?;
+            let found = short_count(i)?;
             return Ok(found);
         }
-        let added = number(self.texts.len())?;
+        let added = short_count(self.texts.len())?;
         self.add(digest, Bytes::of(alloc, text.as_slice())?)?;
         Ok(added)
     }

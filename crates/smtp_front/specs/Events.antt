@@ -1,6 +1,7 @@
 -- The events of a session's text, which know nothing of the pieces that it comes in.
 use Rattle.std.specs.Prelude.{ℕ, ◌==◌, Bool, false, true, if◌then◌else◌, nat_le, bytes_eq, List, [], ◌∷◌, ◌++◌, length, drop, slice_index, Option, Some, None}
 use Rattle.mail_names.specs.Lines.{lines_of}
+use Rattle.mail_message.specs.Faults.{most_octets}
 use Rattle.smtp_front.specs.declared.dialog.Event.{Event}
 use Rattle.smtp_front.specs.declared.dialog.Event.TheVariants as events
 
@@ -56,7 +57,7 @@ body_of (line ∷ lines) =
 
 -- A content has at most 1,048,576 octets.
 abbrev pub content : List ℕ → Event
-content bytes = if nat_le (length bytes) 1048576 then events.Content bytes else events.TooLarge
+content bytes = if nat_le (length bytes) most_octets then events.Content bytes else events.TooLarge
 
 -- an event, and what is held behind it
 pub record Next : Type 0 where

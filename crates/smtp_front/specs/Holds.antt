@@ -2,6 +2,7 @@
 use Rattle.std.specs.Prelude.{◌≡◌, ℕ, ◌≤◌, ◌<◌, ◌+◌, ◌-◌, ◌==◌, ◌&&◌, Bool, false, true, List, [], ◌∷◌, ◌++◌, length, slice_index, drop, Option, Some, None}
 use Rattle.std.specs.List.{flat_map}
 use Rattle.mail_names.specs.Lines.{lines_of}
+use Rattle.mail_message.specs.Faults.{most_octets}
 use Rattle.smtp_front.specs.declared.dialog.Event.{Event}
 use Rattle.smtp_front.specs.declared.part.Part.{Part}
 use Rattle.smtp_front.specs.declared.dialog.Dialog.{Dialog}
@@ -26,8 +27,8 @@ pub record IsPart (part : Part) (text : List ℕ) : Type 0 where
 
 -- the content of these lines, unless it is over the limit
 abbrev pub IsContent : Bool → List ℕ → List (List ℕ) → Type 0
-IsContent false bytes lines = (bytes ≡ flat_map kept lines) × (length bytes ≤ 1048576)
-IsContent true bytes lines = (1048576 < length (flat_map kept lines)) × (length bytes ≤ 1048576)
+IsContent false bytes lines = (bytes ≡ flat_map kept lines) × (length bytes ≤ most_octets)
+IsContent true bytes lines = (most_octets < length (flat_map kept lines)) × (length bytes ≤ most_octets)
 
 -- No line is the dot.
 abbrev pub NoDot : List (List ℕ) → Type 0

@@ -2,6 +2,7 @@
 use Rattle.std.specs.Prelude.{ℕ, ◌+◌, ◌-◌, ◌*◌, ◌==◌, ◌&&◌, ◌||◌, nat_lt, nat_le, Bool, if◌then◌else◌, List, [], ◌∷◌, length, take, drop, codes, fold, Option, Some, None}
 use Rattle.std.specs.List.{list_all}
 use Rattle.std.specs.Char.{is_ascii_digit}
+use Rattle.mail_message.specs.Faults.{most_octets}
 use Rattle.smtp_front.specs.declared.reply.Line.{Line}
 use Rattle.smtp_front.specs.declared.reply.Line.TheVariants as lines
 use Rattle.smtp_front.specs.Commands.{is_same, is_apart}
@@ -28,7 +29,7 @@ is_size value = nat_lt 0 (length value) && (nat_le (length value) 20 && list_all
 -- SIZE (RFC 1870): a number past the most octets of a content is refused.
 abbrev pub size_refusal : List ℕ → Option Line
 size_refusal value =
-    if is_size value then (if nat_lt 1048576 (number_of value) then Some lines.TooLarge else None) else Some lines.BadArgument
+    if is_size value then (if nat_lt most_octets (number_of value) then Some lines.TooLarge else None) else Some lines.BadArgument
 
 -- BODY (RFC 6152)
 abbrev pub body_refusal : List ℕ → Option Line

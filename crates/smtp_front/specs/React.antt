@@ -3,6 +3,7 @@ use Rattle.std.specs.Prelude.{ℕ, nat_lt, Bool, true, false, if◌then◌else�
 use Rattle.mail_plan.specs.declared.submission.Origin.TheVariants as origins
 use Rattle.mail_plan.specs.declared.submission.SubmissionFault.{SubmissionFault}
 use Rattle.mail_plan.specs.declared.submission.SubmissionFault.TheVariants as faults
+use Rattle.mail_plan.specs.declared.submission.TheConstants.{MOST_RECIPIENTS}
 use Rattle.mail_plan.specs.Submission.{Submitted, submission_of}
 use Rattle.smtp_front.specs.declared.verb.Verb.{Verb}
 use Rattle.smtp_front.specs.declared.verb.Verb.TheVariants as verbs
@@ -79,7 +80,7 @@ recipient_of argument = recipient_in (form_of (codes "TO:") argument)
 -- recipient 1,001: 452, and the 1,000 stay
 abbrev pub with_recipient : Bool → Option (List ℕ) → List (List ℕ) → Result (List ℕ) Line → Reaction
 with_recipient extended reverse recipients (Ok key) =
-    if nat_lt (length recipients) 1000 then say (phases.Transaction extended reverse (recipients ++ key ∷ [])) lines.Okay
+    if nat_lt (length recipients) MOST_RECIPIENTS then say (phases.Transaction extended reverse (recipients ++ key ∷ [])) lines.Okay
     else say (phases.Transaction extended reverse recipients) lines.TooManyRecipients
 with_recipient extended reverse recipients (Err line) = say (phases.Transaction extended reverse recipients) line
 

@@ -6,15 +6,13 @@ ghost use Rattle.smtp_front.specs.Holds.{ends_cr, IsPart, IsContent, Holds, Answ
 
 use crate::part::Part;
 use crate::texts::before;
+use mail_message::MOST_OCTETS;
 use mail_names::{Bytes, NoMemory};
 use std::alloc::Global;
 use std::mem;
 
 /// The most octets of a command line, without its CRLF (RFC 5321 section 4.5.3.1.4 asks for 512 with it).
 const LONGEST: usize = 1022;
-
-/// The most octets of a content.
-const MOST: usize = 1_048_576;
 
 /// What comes next in a session's text.
 #[derive(Drop)]
@@ -63,7 +61,7 @@ fn add_line(content: &mut Bytes, over: bool, part: &Part) -> Result<bool, NoMemo
     match part.line() {
         Some(line) => {
             let line = unstuffed(line);
-            let room = MOST.saturating_sub(content.as_slice().len());
+            let room = MOST_OCTETS.saturating_sub(content.as_slice().len());
             if line.len() + 2 > room {
                 return Ok(true);
             }

@@ -6,9 +6,7 @@ ghost use Rattle.smtp_front.specs.Parameters.{words_of, number_of, is_size, size
 
 use crate::reply::Line;
 use crate::texts::{before, beyond, front, is_same, unspaced};
-
-/// The most octets of a content.
-const MOST: u64 = 1_048_576;
+use mail_message::MOST_OCTETS;
 
 fn is_number(text: &[u8]) -> bool
     ensures { result ≡ list_all is_ascii_digit text.now }
@@ -41,7 +39,7 @@ fn size_refusal(value: &[u8]) -> Option<Line>
     if !is_size(value) {
         return Some(Line::BadArgument);
     }
-    if number_of(value) > MOST {
+    if number_of(value) > MOST_OCTETS as u64 {
         return Some(Line::TooLarge);
     }
     None

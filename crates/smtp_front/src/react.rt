@@ -10,11 +10,8 @@ use crate::reply::{Line, Reply};
 use crate::texts::trimmed;
 use crate::verb::{Verb, argument_of, verb_of, word_of};
 use mail_names::{Bytes, Items, Key, NoMemory};
-use mail_plan::{Origin, Submission, SubmissionFault};
+use mail_plan::{MOST_RECIPIENTS, Origin, Submission, SubmissionFault};
 use std::alloc::Global;
-
-/// The most recipients of a transaction.
-const MOST_RECIPIENTS: usize = 1000;
 
 /// How far a session is.
 #[derive(Drop)]

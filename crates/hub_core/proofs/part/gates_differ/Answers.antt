@@ -1,5 +1,5 @@
 use Rattle.std.proofs.Common.{◌≡◌, false, get_or, ap, sym, ◌∙◌, inl, inr, arith}
-use Rattle.mail_plan.specs.Planning.{same_gate}
+use Rattle.mail_names.specs.Gates.{same_gate}
 use Rattle.hub_core.proofs.Comparing.{moved_by, moved_zero, differ_here, first_ends, second_ends}
 use Rattle.hub_core.proofs.part.gates_differ.Goals as goal
 use Rattle.hub_core.proofs.part.gates_differ.Goals.{then-loop-place-test+then-place-b+else-same_gate, then-loop-place-test+else-place-b, else-loop-place-test}

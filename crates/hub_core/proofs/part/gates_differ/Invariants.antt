@@ -1,5 +1,5 @@
 use Rattle.std.proofs.Common.{◌≡◌, ◌-◌, ◌≤◌, length, drop}
-use Rattle.mail_plan.specs.Planning.{same_gate}
+use Rattle.mail_names.specs.Gates.{same_gate}
 use Rattle.hub_core.specs.Differing.{place_where}
 use Rattle.hub_core.proofs.Comparing.{moved_by}
 use Rattle.hub_core.proofs.part.gates_differ.Given as goal
