@@ -16,7 +16,7 @@ use Rattle.rule_terms.specs.declared.fault.RuleFault.TheVariants as faults
 use Rattle.rule_terms.specs.declared.rule.JournalRule.{JournalRule}
 use Rattle.rule_terms.specs.declared.rule.Rule.{Rule}
 use Rattle.rule_terms.specs.declared.shape.Shape.TheVariants as shapes
-use Rattle.rule_terms.proofs.DeedForms.{book-form}
+use Rattle.rule_terms.proofs.Offered.{book-form}
 use Rattle.categorizer.specs.Organisation.{Organisation, with_book, with_register, organisation_of}
 use Rattle.categorizer.proofs.Naming.{and_parts}
 use Rattle.categorizer.proofs.Reading.{has_few, FewIn, register-few}

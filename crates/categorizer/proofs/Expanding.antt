@@ -10,7 +10,7 @@ use Rattle.group_expand.specs.declared.way.Way.{Way}
 use Rattle.group_expand.specs.Expansion.{opens, is_closed, leaf_of, closed_of, expansion}
 use Rattle.group_expand.specs.Routes.{Opens, leaves, closed_met, all_ways, keys_of}
 use Rattle.group_expand.specs.Ways.{fresh}
-use Rattle.group_expand.proofs.Growth.{leaves-stay, closed-stay, first-filter}
+use Rattle.group_expand.proofs.Offered.{leaves-stay, closed-stay, first-filter}
 use Rattle.rule_engine.specs.Gates as engine
 use Rattle.rule_engine.specs.Gates.{OpensMore}
 use Rattle.mail_names.specs.Gates.{same_gate}

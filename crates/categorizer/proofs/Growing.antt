@@ -10,11 +10,11 @@ use Rattle.rule_terms.specs.declared.rule.Rule.{Rule}
 use Rattle.rule_engine.specs.declared.recipient.MadeCopy.{MadeCopy}
 use Rattle.rule_engine.specs.declared.recipient.End.{End}
 use Rattle.rule_engine.specs.declared.recipient.End.TheVariants as ends
-use Rattle.rule_engine.specs.declared.recipient.Outcome.{Outcome}
+use Rattle.rule_engine.specs.declared.recipient.RuleOutcome.{RuleOutcome}
 use Rattle.rule_engine.specs.Gates as engine
 use Rattle.rule_engine.specs.Gates.{OpensMore}
 use Rattle.rule_engine.specs.Growth.{Continues, EndGrows, OutcomeGrows}
-use Rattle.rule_engine.proofs.Growing.{fate-grows}
+use Rattle.rule_engine.proofs.Offered.{fate-grows}
 use Rattle.categorizer.specs.declared.parts.Rejection.{Rejection}
 use Rattle.categorizer.specs.declared.parts.Send.{Send}
 use Rattle.categorizer.specs.Plan.{Case, kept_at, redirected, copy_send, beside_of, is_target, rejected_at, is_rejected, is_held_by, closed_gates}
@@ -55,10 +55,10 @@ is_target-beside case opened (leaf ∷ leaves) target =
     ∙ ap (λ b. is_target (beside_of (fate_of case opened leaf.key)) target || b) (is_target-beside case opened leaves target)
 
 -- what an outcome keeps and sends stays
-keeps-grow : (opened : List Gate) (key target : List ℕ) (end : End) (before after : Outcome) → before.end ≡ end → EndGrows opened end before after →
+keeps-grow : (opened : List Gate) (key target : List ℕ) (end : End) (before after : RuleOutcome) → before.end ≡ end → EndGrows opened end before after →
     keeps key end target ≡ true → keeps key after.end target ≡ true
 keeps-grow opened key target (ends.Keep text) before after is grows h =
-    subst (λ (e : End). keeps key e target ≡ true) (sym (ap (λ (o : Outcome). o.end) grows ∙ is)) h
+    subst (λ (e : End). keeps key e target ≡ true) (sym (ap (λ (o : RuleOutcome). o.end) grows ∙ is)) h
 keeps-grow opened key target (ends.Redirect to text rule) before after is grows h = cc
 keeps-grow opened key target (ends.Reject rule code words) before after is grows h = cc
 keeps-grow opened key target (ends.Held rule) before after is grows h = cc
@@ -77,11 +77,11 @@ copies-grow first second target end goes h =
     let b : is_target (map copy_send second) target ≡ true = subst (λ (xs : List MadeCopy). is_target (map copy_send xs) target ≡ true) (sym goes.is) (map-goes first goes.more target a) in
     is_target-append (map copy_send second) end target ∙ or_left _ _ b
 
-beside-grows : (opened : List Gate) (target : List ℕ) (end : End) (before after : Outcome) → before.end ≡ end → EndGrows opened end before after →
+beside-grows : (opened : List Gate) (target : List ℕ) (end : End) (before after : RuleOutcome) → before.end ≡ end → EndGrows opened end before after →
     is_target (beside_of before) target ≡ true → is_target (beside_of after) target ≡ true
-beside-grows opened target (ends.Keep text) before after is grows h = subst (λ (o : Outcome). is_target (beside_of o) target ≡ true) (sym grows) h
-beside-grows opened target (ends.Redirect to text rule) before after is grows h = subst (λ (o : Outcome). is_target (beside_of o) target ≡ true) (sym grows) h
-beside-grows opened target (ends.Reject rule code words) before after is grows h = subst (λ (o : Outcome). is_target (beside_of o) target ≡ true) (sym grows) h
+beside-grows opened target (ends.Keep text) before after is grows h = subst (λ (o : RuleOutcome). is_target (beside_of o) target ≡ true) (sym grows) h
+beside-grows opened target (ends.Redirect to text rule) before after is grows h = subst (λ (o : RuleOutcome). is_target (beside_of o) target ≡ true) (sym grows) h
+beside-grows opened target (ends.Reject rule code words) before after is grows h = subst (λ (o : RuleOutcome). is_target (beside_of o) target ≡ true) (sym grows) h
 beside-grows opened target (ends.Held rule) before after is grows h =
     copies-grow before.copies after.copies target (redirected after.end) grows.copies
     (subst (λ (e : End). is_target (map copy_send before.copies ++ redirected e) target ≡ true) is h)
@@ -130,12 +130,12 @@ is_rejected-rejected case opened (leaf ∷ leaves) key =
     ∙ (ap (λ b. b || is_rejected (rejected_in case opened leaves) key) (is_rejected-at key leaf.key (fate_of case opened leaf.key).end)
     ∙ ap (λ b. rejects key leaf.key (fate_of case opened leaf.key).end || b) (is_rejected-rejected case opened leaves key))
 
-rejects-grow : (opened : List Gate) (key here : List ℕ) (end : End) (before after : Outcome) → before.end ≡ end → EndGrows opened end before after →
+rejects-grow : (opened : List Gate) (key here : List ℕ) (end : End) (before after : RuleOutcome) → before.end ≡ end → EndGrows opened end before after →
     rejects key here end ≡ true → rejects key here after.end ≡ true
 rejects-grow opened key here (ends.Keep text) before after is grows h = cc
 rejects-grow opened key here (ends.Redirect to text rule) before after is grows h = cc
 rejects-grow opened key here (ends.Reject rule code words) before after is grows h =
-    subst (λ (e : End). rejects key here e ≡ true) (sym (ap (λ (o : Outcome). o.end) grows ∙ is)) h
+    subst (λ (e : End). rejects key here e ≡ true) (sym (ap (λ (o : RuleOutcome). o.end) grows ∙ is)) h
 rejects-grow opened key here (ends.Held rule) before after is grows h = cc
 
 pub refused-grow : (case : Case) (before opened : List Gate) → OpensMore before opened → ExpansionGrows opened (case.expand before) (case.expand opened) →
@@ -151,7 +151,7 @@ refused-grow case before opened within expands key h =
 pub same_number : (a b : ℕ) → (a == b) ≡ true → a ≡ b
 same_number a b h = search rules
 
-is_held-grows : (opened : List Gate) (rule : ℕ) (end : End) (before after : Outcome) → before.end ≡ end → EndGrows opened end before after →
+is_held-grows : (opened : List Gate) (rule : ℕ) (end : End) (before after : RuleOutcome) → before.end ≡ end → EndGrows opened end before after →
     rule_is_opened opened rule ≡ false → is_held_by rule end ≡ true → is_held_by rule after.end ≡ true
 is_held-grows opened rule (ends.Keep text) before after is grows shut h = cc
 is_held-grows opened rule (ends.Redirect to text place) before after is grows shut h = cc
@@ -159,7 +159,7 @@ is_held-grows opened rule (ends.Reject place code words) before after is grows s
 is_held-grows opened rule (ends.Held place) before after is grows shut h =
     let same : place ≡ rule = same_number place rule h in
     let still : after ≡ before = grows.held (subst (λ r. rule_is_opened opened r ≡ false) (sym same) shut) in
-    subst (λ (e : End). is_held_by rule e ≡ true) (sym (ap (λ (o : Outcome). o.end) still ∙ is)) h
+    subst (λ (e : End). is_held_by rule e ≡ true) (sym (ap (λ (o : RuleOutcome). o.end) still ∙ is)) h
 
 is_rule-same : (rule : ℕ) (gate : Gate) → engine.opens rule gate ≡ same_gate (gates.Rule rule) gate
 is_rule-same rule (gates.Object key) = refl

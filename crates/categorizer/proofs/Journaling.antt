@@ -10,7 +10,7 @@ use Rattle.journal_report.specs.declared.why.Why.TheVariants as whys
 use Rattle.journal_report.specs.Listed.{Lists, OneLists}
 use Rattle.journal_report.specs.Report.{report_text}
 use Rattle.journal_report.specs.Reports.{is_clean, has_group, FitsWhy}
-use Rattle.journal_report.proofs.Listing.{lists}
+use Rattle.journal_report.proofs.Offered.{lists}
 use Rattle.journal_rules.specs.Taking.{is_taken, named, taken_by, has_some, takings}
 use Rattle.journal_rules.specs.Taking as taking
 use Rattle.journal_rules.specs.declared.taking.Taken.{Taken}

@@ -6,7 +6,7 @@ use Rattle.group_expand.specs.Expansion.{expansion, is_closed, closed_of}
 use Rattle.group_expand.specs.Routes.{too_many, all_ways}
 use Rattle.group_expand.specs.Ways.{fresh}
 use Rattle.group_expand.specs.declared.way.Way.{Way}
-use Rattle.group_expand.proofs.Growth.{first-filter}
+use Rattle.group_expand.proofs.Offered.{first-filter}
 use Rattle.journal_rules.specs.declared.taking.Taken.{Taken}
 use Rattle.rule_terms.specs.Forms.{is_rule}
 use Rattle.rule_engine.specs.Run.{distinct}

@@ -8,7 +8,7 @@ use Rattle.group_expand.specs.declared.outcome.Leaf.{Leaf}
 use Rattle.mail_plan.specs.Planning.{is_gate_among}
 use Rattle.rule_engine.specs.Gates as engine
 use Rattle.rule_terms.specs.declared.rule.Rule.{Rule}
-use Rattle.rule_engine.specs.declared.recipient.Outcome.{Outcome}
+use Rattle.rule_engine.specs.declared.recipient.RuleOutcome.{RuleOutcome}
 use Rattle.rule_engine.specs.Fate.{fate}
 use Rattle.categorizer.specs.declared.parts.Judged.{Judged}
 use Rattle.categorizer.specs.declared.parts.Rejection.{Rejection}
@@ -24,7 +24,7 @@ abbrev pub rule_is_opened : List Gate → ℕ → Bool
 rule_is_opened gates rule = engine.is_opened gates rule
 
 -- the parts of a plan, over leaves that are judged
-abbrev pub fate_of : Case → List Gate → List ℕ → Outcome
+abbrev pub fate_of : Case → List Gate → List ℕ → RuleOutcome
 fate_of case opened key = fate case.rules case.setting case.message opened key
 
 abbrev pub judged_of : Case → List Gate → List Leaf → List Judged

@@ -6,7 +6,7 @@ use Rattle.std.proofs.lemmas.Bool.Decides.{nat_tests}
 use Rattle.mail_plan.specs.declared.release.Item.{Item}
 use Rattle.mail_plan.specs.Planning.{is_among, are_distinct, are_named, use_texts}
 use Rattle.rule_engine.specs.Run.{is_text, with_text, place_of}
-use Rattle.rule_engine.proofs.Placing.{place_of-later, place_of-new, is_text-new}
+use Rattle.rule_engine.proofs.Offered.{place_of-later, place_of-new, is_text-new}
 use Rattle.categorizer.specs.declared.parts.Draft.{Draft}
 use Rattle.categorizer.specs.Releasing.{draft_texts, items_from}
 use Rattle.categorizer.proofs.Lists.{same_bytes, bytes_same}

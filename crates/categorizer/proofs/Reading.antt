@@ -17,7 +17,7 @@ use Rattle.org_directory.specs.declared.draft.Line.TheVariants as lines
 use Rattle.org_directory.specs.declared.fault.DirectoryFault.{DirectoryFault}
 use Rattle.org_directory.specs.declared.fault.DirectoryFault.TheVariants as faults
 use Rattle.org_directory.specs.declared.object.Object.{Object}
-use Rattle.org_directory.proofs.Keeping.{line_fits, line-fits}
+use Rattle.org_directory.proofs.Offered.{line_fits, line-fits}
 use Rattle.group_expand.specs.Expansion.{opens, is_closed}
 use Rattle.rule_terms.specs.declared.rule.Rule.{Rule}
 use Rattle.categorizer.specs.Releasing.{hold_of, object_approvers}

@@ -14,7 +14,7 @@ use Rattle.mail_plan.specs.declared.release.Hold.{Hold}
 use Rattle.mail_plan.specs.declared.release.ItemKind.{ItemKind}
 use Rattle.mail_plan.specs.declared.release.ItemKind.TheVariants as kinds
 use Rattle.rule_engine.specs.Run.{is_text, with_text, place_of}
-use Rattle.rule_engine.proofs.Placing.{is_text-new, is_text-with}
+use Rattle.rule_engine.proofs.Offered.{is_text-new, is_text-with}
 use Rattle.categorizer.specs.declared.parts.Content.{Content}
 use Rattle.categorizer.specs.declared.parts.Draft.{Draft}
 use Rattle.categorizer.specs.declared.parts.Letter.{Letter}

@@ -14,7 +14,7 @@ use Rattle.rule_match.specs.Applies.{Setting}
 use Rattle.rule_engine.specs.declared.recipient.MadeCopy.{MadeCopy}
 use Rattle.rule_engine.specs.declared.recipient.End.{End}
 use Rattle.rule_engine.specs.declared.recipient.End.TheVariants as ends
-use Rattle.rule_engine.specs.declared.recipient.Outcome.{Outcome}
+use Rattle.rule_engine.specs.declared.recipient.RuleOutcome.{RuleOutcome}
 use Rattle.rule_engine.specs.Fate.{fate}
 use Rattle.mail_plan.specs.Planning.{is_gate_among}
 use Rattle.categorizer.specs.declared.parts.Judged.{Judged}
@@ -59,7 +59,7 @@ abbrev pub copy_send : MadeCopy → Send
 copy_send copied = record { target = copied.target; why = whys.Copied copied.rule; text = copied.text }
 
 -- the copies made for a leaf, and then its redirect
-abbrev pub beside_of : Outcome → List Send
+abbrev pub beside_of : RuleOutcome → List Send
 beside_of outcome = map copy_send outcome.copies ++ redirected outcome.end
 
 -- the kept leaves, in leaf order

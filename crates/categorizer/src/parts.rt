@@ -4,13 +4,13 @@ use journal_report::Why;
 use mail_names::{Bytes, Gate, Items, Key};
 use mail_notices::About;
 use mail_plan::{Hold, ItemKind};
-use rule_engine::Outcome;
+use rule_engine::RuleOutcome;
 
 /// A leaf, and what the rules make of it.
 #[derive(Drop)]
 pub struct Judged {
     pub leaf: Leaf,
-    pub outcome: Outcome,
+    pub outcome: RuleOutcome,
 }
 
 /// A target, why the message is sent to it, and the text that it gets.

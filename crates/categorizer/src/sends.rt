@@ -7,7 +7,7 @@ use crate::parts::{Judged, Send};
 use group_expand::Leaf;
 use journal_report::Why;
 use mail_names::{Bytes, Items, Key, NoMemory};
-use rule_engine::{End, MadeCopy, Outcome};
+use rule_engine::{End, MadeCopy, RuleOutcome};
 use std::alloc::Global;
 
 /// Whether the target is one of these.
@@ -81,7 +81,7 @@ fn add_redirect(alloc: Global, sends: &mut Items<Send>, end: &End) -> Result<(),
 }
 
 // Adds the copies made for a leaf, and then its redirect.
-fn add_beside(alloc: Global, sends: &mut Items<Send>, outcome: &Outcome) -> Result<(), NoMemory>
+fn add_beside(alloc: Global, sends: &mut Items<Send>, outcome: &RuleOutcome) -> Result<(), NoMemory>
     ensures { OnOk result (sends.new ≡ fold with_send sends.old (beside_of outcome.now)) }
 {
     add_copies(alloc, sends, outcome.copies.as_slice())?;

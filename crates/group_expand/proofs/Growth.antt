@@ -7,7 +7,7 @@ use Rattle.std.specs.Str.{bytes_eq}
 use Rattle.org_directory.specs.Register.{among, Register, is_inside, object_of, members_of}
 use Rattle.group_expand.specs.Ways.{Web, ways, here, unless, fresh}
 use Rattle.group_expand.specs.declared.way.Way.{Way}
-use Rattle.org_directory.proofs.Keys.{same_key, key_is_itself}
+use Rattle.org_directory.proofs.Offered.{same_key, key_is_itself}
 use Rattle.group_expand.proofs.Words.{AllHad, all_flat, fresh-agree}
 use Rattle.group_expand.proofs.Walking.{ends_at_end, agree_off}
 use Rattle.group_expand.specs.Marked.{with_key}

@@ -6,3 +6,4 @@ pub mod Steps
 pub mod Table
 pub mod Walking
 pub mod Words
+pub mod Offered

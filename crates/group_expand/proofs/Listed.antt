@@ -6,7 +6,7 @@ use Rattle.std.specs.Str.{bytes_eq}
 use Rattle.org_directory.specs.Register.{among}
 use Rattle.group_expand.specs.Ways.{Web, ways, here, unless}
 use Rattle.group_expand.specs.declared.way.Way.{Way}
-use Rattle.org_directory.proofs.Keys.{same_key, key_is_itself}
+use Rattle.org_directory.proofs.Offered.{same_key, key_is_itself}
 use Rattle.group_expand.specs.Paths.{Has, IsChain, NoRepeat, way_through, ListsAll}
 use Rattle.group_expand.proofs.Growth.{Has-front, Has-behind, Has-parts}
 

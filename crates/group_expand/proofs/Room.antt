@@ -10,7 +10,7 @@ use Rattle.org_directory.specs.Register.{among, Register, keys_at, members_in, p
 use Rattle.group_expand.specs.Ways.{ways}
 use Rattle.group_expand.specs.Routes.{web_of}
 use Rattle.group_expand.specs.Paths.{Has, IsChain, NoRepeat, way_through, ListsEvery}
-use Rattle.org_directory.proofs.Chains.{number, Objects, number-new, numbers-below}
+use Rattle.org_directory.proofs.Offered.{number, Objects, number-new, numbers-below}
 use Rattle.group_expand.proofs.Listed.{lists-all}
 
 Objects-push : (reg : Register) (ks : List (List ℕ)) (k : List ℕ) → Objects reg ks → (p : ℕ) × (place_of reg k ≡ Some p) → Objects reg (ks ++ k ∷ [])

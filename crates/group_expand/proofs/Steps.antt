@@ -9,13 +9,12 @@ use Rattle.std.proofs.lemmas.List.Elements.{All-append, All-head, All-tail, All-
 use Rattle.std.proofs.lemmas.Option.{slice_get_within}
 use Rattle.std.proofs.lemmas.List.Sums.{sum_by-set, sum_by-append}
 use Rattle.std.specs.Str.{bytes_eq}
-use Rattle.org_directory.proofs.Places.{object-there, place_of-key_at, below-place, object_of-at, members-at, found-below}
+use Rattle.org_directory.proofs.Offered.{object-there, place_of-key_at, below-place, object_of-at, members-at, found-below, same_key, key_is_itself}
 use Rattle.org_directory.specs.Register.{Register, IsSound, key_at, keys_at, members_in, is_group, is_inside, place_of, object_of, object_at, members_of, among}
 use Rattle.group_expand.specs.Ways.{Web, first_of_each, here}
 use Rattle.group_expand.specs.Marked.{Frame, frame, Holding, Facing, with_key, trail_of}
 use Rattle.org_directory.specs.declared.object.Object.{Object}
 use Rattle.group_expand.specs.declared.way.Way.{Way}
-use Rattle.org_directory.proofs.Keys.{same_key, key_is_itself}
 use Rattle.group_expand.proofs.Walking.{holding-pop, holding-end, holding-nothing, holding-start, facing-member, facing-root, facing-skip, facing-enter}
 use Rattle.group_expand.specs.declared.walk.Entered.{Entered}
 use Rattle.group_expand.specs.Routes.{all_ways, web_of, shut_by, shut_at, is_leaf}

@@ -15,7 +15,7 @@ use Rattle.group_expand.specs.Places.{no_marks}
 use Rattle.group_expand.proofs.Growth.{first-filter}
 use Rattle.group_expand.specs.declared.way.Way.{Way}
 use Rattle.group_expand.specs.Routes.{shut_by, shut_at, kept, IsTable, all_ways, leaves, closed_met, keys_of, is_unknown, with_unknown, unknown_ways}
-use Rattle.org_directory.proofs.Places.{found-below}
+use Rattle.org_directory.proofs.Offered.{found-below}
 use Rattle.group_expand.proofs.Steps.{all-false}
 
 get-front : (xs ys : List Bool) (p : ℕ) → p < length xs → get_or (xs ++ ys) p false ≡ get_or xs p false

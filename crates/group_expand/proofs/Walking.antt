@@ -9,7 +9,7 @@ use Rattle.group_expand.specs.declared.way.Way.{Way}
 use Rattle.org_directory.specs.Register.{among}
 use Rattle.group_expand.specs.Ways.{Web, here, unless, ways, fresh}
 use Rattle.group_expand.specs.Marked.{Sealed, Frame, frame, trail_of, pending, Begun, Walks, Holding, Facing, with_key}
-use Rattle.org_directory.proofs.Keys.{same_key, key_is_itself}
+use Rattle.org_directory.proofs.Offered.{same_key, key_is_itself}
 use Rattle.group_expand.proofs.Words.{AllHad, AllHad-append, fresh-skip, Agree, fresh-agree, in_front, in_parts, all_flat}
 
 pub here-had : (had : List ℕ → Bool) (b : Bool) (trail : List (List ℕ)) (k : List ℕ) → had k ≡ true → AllHad had (here b trail k)

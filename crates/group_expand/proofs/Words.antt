@@ -4,7 +4,7 @@ use Rattle.std.proofs.Common.{ap, arith}
 use Rattle.std.proofs.lemmas.Grind.{common_steps}
 use Rattle.std.specs.List.{flat_map}
 use Rattle.std.specs.Str.{bytes_eq}
-use Rattle.org_directory.proofs.Keys.{key_is_itself}
+use Rattle.org_directory.proofs.Offered.{key_is_itself}
 use Rattle.std.proofs.lemmas.List.Folds.{list_any-append}
 use Rattle.group_expand.specs.declared.way.Way.{Way}
 use Rattle.org_directory.specs.Register.{among}

@@ -20,7 +20,7 @@ use Rattle.mail_plan.specs.declared.release.Release.{Release}
 use Rattle.hub_core.specs.declared.asking.Asking.{Asking}
 use Rattle.hub_core.specs.Setup.{Texts, Setup}
 use Rattle.hub_core.specs.Approvals.{Stage, changed, asking_of, stage_open, decided_asking, decided_stage, expired_asking, expired_stage, asking_in}
-use Rattle.hub_core.specs.Mail.{Mail, freed, new_mail, input_of, waits_in, waits, with_asks, categorised, asking_at, decided_with, decided_mail, expired_mail, can_decide, decision_in, is_taken}
+use Rattle.hub_core.specs.Mail.{LiveMail, freed, new_mail, input_of, waits_in, waits, with_asks, categorised, asking_at, decided_with, decided_mail, expired_mail, can_decide, decision_in, is_taken}
 use Rattle.hub_core.specs.Standing.{Standing, start, standing, state_after, mail_of}
 use Rattle.hub_core.specs.Items.{Accepted, Past, no_past, past, past_after, accepted, release_for, opening_of, with_opening, IsStep, AreSteps, IsHistory}
 use Rattle.hub_core.proofs.Opened.{release-more}
@@ -32,7 +32,7 @@ gate_asked asking = asking.approval.gate
 
 -- A submission that is remembered is this one of this number, as it was accepted: the gates that were opened for it are those
 -- that the history opened, and a release asks for the gates that the prescribed one holds.
-record IsOf (setup : Setup) (number : ℕ) (mail : Mail) (a : Accepted) : Type 0 where
+record IsOf (setup : Setup) (number : ℕ) (mail : LiveMail) (a : Accepted) : Type 0 where
   submission : mail.submission ≡ a.submission
   moment : mail.accepted_at ≡ a.moment
   epoch : mail.epoch ≡ a.epoch
@@ -42,13 +42,13 @@ record IsOf (setup : Setup) (number : ℕ) (mail : Mail) (a : Accepted) : Type 0
   asked : (r : ℕ) (asks : List Asking) → slice_get mail.stages r ≡ Some (Some asks) → map gate_asked asks ≡ gates_of (release_for setup number a r).holds
 
 -- and each of these, the first of which has this number
-abbrev AreOf : Setup → ℕ → List Mail → List Accepted → Type 0
+abbrev AreOf : Setup → ℕ → List LiveMail → List Accepted → Type 0
 AreOf setup n [] [] = Unit {0}
 AreOf setup n (mail ∷ live) [] = ⊥
 AreOf setup n [] (a ∷ more) = ⊥
 AreOf setup n (mail ∷ live) (a ∷ more) = IsOf setup n mail a × AreOf setup (n + 1) live more
 
-freed-is : (setup : Setup) (n : ℕ) (mail : Mail) (a : Accepted) → IsOf setup n mail a → IsOf setup n (freed mail) a
+freed-is : (setup : Setup) (n : ℕ) (mail : LiveMail) (a : Accepted) → IsOf setup n mail a → IsOf setup n (freed mail) a
 freed-is setup n mail a is = by (list_any stage_open mail.stages)
   where
     by : (open_still : Bool) → IsOf setup n (cond open_still mail (record mail { org = None })) a
@@ -62,7 +62,7 @@ gates-asked made (hold ∷ holds) = ap (λ (gates : List Gate). hold.gate ∷ ga
 stage_is : (a b : List Asking) → Some (Some a) ≡ Some (Some b) → a ≡ b
 stage_is a b e = cc
 
-set_asked : (setup : Setup) (n : ℕ) (mail : Mail) (a : Accepted) (release : ℕ) (asks : List Asking) → IsOf setup n mail a →
+set_asked : (setup : Setup) (n : ℕ) (mail : LiveMail) (a : Accepted) (release : ℕ) (asks : List Asking) → IsOf setup n mail a →
     map gate_asked asks ≡ gates_of (release_for setup n a release).holds →
     (r : ℕ) (other : List Asking) → slice_get (slice_set mail.stages release (Some asks)) r ≡ Some (Some other) → map gate_asked other ≡ gates_of (release_for setup n a r).holds
 set_asked setup n mail a release asks is own r other e =
@@ -77,7 +77,7 @@ set_asked setup n mail a release asks is own r other e =
     inner x y p = cc
 
 -- the submission with a release categorised by the prescribed one
-categorised-is : (setup : Setup) (n : ℕ) (mail : Mail) (a : Accepted) (release : ℕ) (plan : Release) → plan ≡ release_for setup n a release →
+categorised-is : (setup : Setup) (n : ℕ) (mail : LiveMail) (a : Accepted) (release : ℕ) (plan : Release) → plan ≡ release_for setup n a release →
     IsOf setup n mail a → IsOf setup n (categorised release plan mail) a
 categorised-is setup n mail a release plan own is = by (waits mail release)
   where
@@ -135,7 +135,7 @@ length-map-same : {X Y : Type 0} (f : X → Y) (xs : List X) → length (map f x
 length-map-same f [] = refl
 length-map-same f (x ∷ xs) = ap suc (length-map-same f xs)
 
-expired-is : (setup : Setup) (moment n : ℕ) (mail : Mail) (a : Accepted) → IsOf setup n mail a → IsOf setup n (expired_mail moment mail) a
+expired-is : (setup : Setup) (moment n : ℕ) (mail : LiveMail) (a : Accepted) → IsOf setup n mail a → IsOf setup n (expired_mail moment mail) a
 expired-is setup moment n mail a is =
     freed-is setup n (record mail { stages = map (expired_stage moment) mail.stages }) a
     (record {
@@ -154,7 +154,7 @@ asking-there None gate asking e = absurd (cc)
 asking-there (Some None) gate asking e = absurd (cc)
 asking-there (Some (Some asks)) gate asking e = (asks, refl, e)
 
-rejected-is : (setup : Setup) (n : ℕ) (mail : Mail) (a : Accepted) (name : ApprovalName) (by : List ℕ) (moment : ℕ) (at : Option Asking) →
+rejected-is : (setup : Setup) (n : ℕ) (mail : LiveMail) (a : Accepted) (name : ApprovalName) (by : List ℕ) (moment : ℕ) (at : Option Asking) →
     IsOf setup n mail a → IsOf setup n (decided_with at name by verdicts.Reject moment mail) a
 rejected-is setup n mail a name by moment None is = is
 rejected-is setup n mail a name by moment (Some asking) is =
@@ -171,7 +171,7 @@ rejected-is setup n mail a name by moment (Some asking) is =
     })
 
 -- the gate that an approval opens is the one that the prescribed release holds
-opens : (setup : Setup) (name : ApprovalName) (moment : ℕ) (mail : Mail) (a : Accepted) (asking : Asking) → asking_at mail name ≡ Some asking →
+opens : (setup : Setup) (name : ApprovalName) (moment : ℕ) (mail : LiveMail) (a : Accepted) (asking : Asking) → asking_at mail name ≡ Some asking →
     IsOf setup name.submission mail a →
     opening_of (slice_get (gates_of (release_for setup name.submission a name.release).holds) name.gate) moment ≡ (record { gate = asking.approval.gate; moment = moment }) ∷ []
 opens setup name moment mail a asking there is =
@@ -179,7 +179,7 @@ opens setup name moment mail a asking there is =
     ap (λ (gates : List Gate). opening_of (slice_get gates name.gate) moment) (sym (is.asked name.release asks stage))
     ∙ ap (λ (o : Option Gate). opening_of o moment) (get-map gate_asked asks name.gate asking ask)
 
-approved-asked : (setup : Setup) (name : ApprovalName) (by : List ℕ) (moment : ℕ) (mail : Mail) (a : Accepted) → IsOf setup name.submission mail a →
+approved-asked : (setup : Setup) (name : ApprovalName) (by : List ℕ) (moment : ℕ) (mail : LiveMail) (a : Accepted) → IsOf setup name.submission mail a →
     (r : ℕ) (later : List Asking) → slice_get (changed (decided_stage name.gate by verdicts.Approve moment) name.release mail.stages ++ None ∷ []) r ≡ Some (Some later) →
     map gate_asked later ≡ gates_of (release_for setup name.submission (with_opening setup name moment a) r).holds
 approved-asked setup name by moment mail a is r later e =
@@ -200,7 +200,7 @@ approved-asked setup name by moment mail a is r later e =
     no_stage : (x : List Asking) → Some x ≡ None → ⊥
     no_stage x p = cc
 
-approved-is : (setup : Setup) (mail : Mail) (a : Accepted) (name : ApprovalName) (by : List ℕ) (moment : ℕ) (asking : Asking) → asking_at mail name ≡ Some asking →
+approved-is : (setup : Setup) (mail : LiveMail) (a : Accepted) (name : ApprovalName) (by : List ℕ) (moment : ℕ) (asking : Asking) → asking_at mail name ≡ Some asking →
     IsOf setup name.submission mail a →
     IsOf setup name.submission (decided_with (Some asking) name by verdicts.Approve moment mail) (with_opening setup name moment a)
 approved-is setup mail a name by moment asking there is =
@@ -222,32 +222,32 @@ approved-is setup mail a name by moment asking there is =
       asked = approved-asked setup name by moment mail a is;
     })
 
-no_mail : (mail : Mail) → None ≡ Some mail → ⊥
+no_mail : (mail : LiveMail) → None ≡ Some mail → ⊥
 no_mail mail e = cc
 
-some_mail : (a b : Mail) → Some a ≡ Some b → a ≡ b
+some_mail : (a b : LiveMail) → Some a ≡ Some b → a ≡ b
 some_mail a b e = cc
 
-are-changed : (setup : Setup) (n k : ℕ) (f : Mail → Mail) (g : Accepted → Accepted) (live : List Mail) (all : List Accepted) →
-    ((number : ℕ) (mail : Mail) (a : Accepted) → number ≡ n + k → slice_get live k ≡ Some mail → slice_get all k ≡ Some a → IsOf setup number mail a → IsOf setup number (f mail) (g a)) →
+are-changed : (setup : Setup) (n k : ℕ) (f : LiveMail → LiveMail) (g : Accepted → Accepted) (live : List LiveMail) (all : List Accepted) →
+    ((number : ℕ) (mail : LiveMail) (a : Accepted) → number ≡ n + k → slice_get live k ≡ Some mail → slice_get all k ≡ Some a → IsOf setup number mail a → IsOf setup number (f mail) (g a)) →
     AreOf setup n live all → AreOf setup n (changed f k live) (changed g k all)
 are-changed setup n k f g [] [] step are = are
 are-changed setup n k f g [] (a ∷ all) step are = absurd are
 are-changed setup n k f g (m ∷ live) [] step are = absurd are
 are-changed setup n zero f g (m ∷ live) (a ∷ all) step are = (step n m a (omega arith) refl refl are.0, are.1)
 are-changed setup n (suc k) f g (m ∷ live) (a ∷ all) step are =
-    subst (λ (xs : List Mail). AreOf setup n xs (changed g (suc k) (a ∷ all))) (sym (changed-tail f m live k))
+    subst (λ (xs : List LiveMail). AreOf setup n xs (changed g (suc k) (a ∷ all))) (sym (changed-tail f m live k))
     (subst (λ (ys : List Accepted). AreOf setup n (m ∷ changed f k live) ys) (sym (changed-tail g a all k))
     (are.0, are-changed setup (n + 1) k f g live all (λ number mail b e at there is. step number mail b (omega arith) at there is) are.1))
 
-are-mapped : (setup : Setup) (n : ℕ) (f : Mail → Mail) (live : List Mail) (all : List Accepted) →
-    ((number : ℕ) (mail : Mail) (a : Accepted) → IsOf setup number mail a → IsOf setup number (f mail) a) → AreOf setup n live all → AreOf setup n (map f live) all
+are-mapped : (setup : Setup) (n : ℕ) (f : LiveMail → LiveMail) (live : List LiveMail) (all : List Accepted) →
+    ((number : ℕ) (mail : LiveMail) (a : Accepted) → IsOf setup number mail a → IsOf setup number (f mail) a) → AreOf setup n live all → AreOf setup n (map f live) all
 are-mapped setup n f [] [] step are = are
 are-mapped setup n f [] (a ∷ all) step are = absurd are
 are-mapped setup n f (m ∷ live) [] step are = absurd are
 are-mapped setup n f (m ∷ live) (a ∷ all) step are = (step n m a are.0, are-mapped setup (n + 1) f live all step are.1)
 
-are-push : (setup : Setup) (n : ℕ) (live : List Mail) (all : List Accepted) (mail : Mail) (a : Accepted) → ((number : ℕ) → IsOf setup number mail a) → AreOf setup n live all →
+are-push : (setup : Setup) (n : ℕ) (live : List LiveMail) (all : List Accepted) (mail : LiveMail) (a : Accepted) → ((number : ℕ) → IsOf setup number mail a) → AreOf setup n live all →
     AreOf setup n (live ++ mail ∷ []) (all ++ a ∷ [])
 are-push setup n [] [] mail a is are = (is n, tt)
 are-push setup n [] (b ∷ all) mail a is are = absurd are
@@ -277,8 +277,8 @@ new-is setup submission moment epoch other org texts same own number = record {
 }
 
 -- a decision that is taken is made on an approval that is there
-pub taken-there : (at : Option Mail) (name : ApprovalName) (by : List ℕ) (verdict : Verdict) (moment : ℕ) → is_taken (decision_in at name by verdict moment) ≡ true →
-    (mail : Mail) × (at ≡ Some mail) × ((asking : Asking) × (asking_at mail name ≡ Some asking) × (is_taken (Some (decide_answer asking.approval by moment)) ≡ true))
+pub taken-there : (at : Option LiveMail) (name : ApprovalName) (by : List ℕ) (verdict : Verdict) (moment : ℕ) → is_taken (decision_in at name by verdict moment) ≡ true →
+    (mail : LiveMail) × (at ≡ Some mail) × ((asking : Asking) × (asking_at mail name ≡ Some asking) × (is_taken (Some (decide_answer asking.approval by moment)) ≡ true))
 taken-there None name by verdict moment e = absurd (cc)
 taken-there (Some mail) name by verdict moment e = (mail, refl, may (can_decide verdict mail) (asking_at mail name) e)
   where
@@ -288,7 +288,7 @@ taken-there (Some mail) name by verdict moment e = (mail, refl, may (can_decide 
     may true (Some asking) h = (asking, refl, h)
     may false there h = absurd (cc)
 
-pub mail-there : (s : Standing) (number : ℕ) (mail : Mail) → mail_of s number ≡ Some mail → (1 ≤ number) × (slice_get s.live (number - 1) ≡ Some mail)
+pub mail-there : (s : Standing) (number : ℕ) (mail : LiveMail) → mail_of s number ≡ Some mail → (1 ≤ number) × (slice_get s.live (number - 1) ≡ Some mail)
 mail-there s number mail e = by (nat_le 1 number) refl e
   where
     by : (b : Bool) → nat_le 1 number ≡ b → cond b (slice_get s.live (number - 1)) None ≡ Some mail → (1 ≤ number) × (slice_get s.live (number - 1) ≡ Some mail)
@@ -304,11 +304,11 @@ approve-step setup s p name by moment taken are =
     are-changed setup 1 (name.submission - 1) (decided_mail name by verdicts.Approve moment) (with_opening setup name moment) s.live p.accepted
     (λ number own a e here there is. one mail asks.0 asks.1 own a (some_mail own mail (sym here ∙ at.1)) number (let some = at.0 in omega arith) is) are
   where
-    one : (mail : Mail) (asking : Asking) → asking_at mail name ≡ Some asking → (own : Mail) (a : Accepted) → own ≡ mail → (number : ℕ) → number ≡ name.submission →
+    one : (mail : LiveMail) (asking : Asking) → asking_at mail name ≡ Some asking → (own : LiveMail) (a : Accepted) → own ≡ mail → (number : ℕ) → number ≡ name.submission →
         IsOf setup number own a → IsOf setup number (decided_mail name by verdicts.Approve moment own) (with_opening setup name moment a)
     one mail asking there own a same number at is =
         subst (λ (k : ℕ). IsOf setup k (decided_mail name by verdicts.Approve moment own) (with_opening setup name moment a)) (sym at)
-        (let there-own : asking_at own name ≡ Some asking = ap (λ (m : Mail). asking_at m name) same ∙ there in
+        (let there-own : asking_at own name ≡ Some asking = ap (λ (m : LiveMail). asking_at m name) same ∙ there in
         subst (λ (o : Option Asking). IsOf setup name.submission (decided_with o name by verdicts.Approve moment own) (with_opening setup name moment a)) (sym there-own)
         (approved-is setup own a name by moment asking there-own (subst (λ (k : ℕ). IsOf setup k own a) at is)))
 
@@ -381,13 +381,13 @@ steps setup before (e ∷ h) c is =
 agrees : (setup : Setup) (h : List Entry) → IsHistory setup h → AgreesAt setup h
 agrees setup h c = steps setup [] h c (record { epoch = refl; newest = refl; live = tt })
 
-are-at : (setup : Setup) (n : ℕ) (live : List Mail) (all : List Accepted) (k : ℕ) (mail : Mail) → AreOf setup n live all → slice_get live k ≡ Some mail →
+are-at : (setup : Setup) (n : ℕ) (live : List LiveMail) (all : List Accepted) (k : ℕ) (mail : LiveMail) → AreOf setup n live all → slice_get live k ≡ Some mail →
     (a : Accepted) × (slice_get all k ≡ Some a) × IsOf setup (n + k) mail a
 are-at setup n [] all k mail are at = absurd (no_mail mail at)
 are-at setup n (m ∷ live) [] k mail are at = absurd are
 are-at setup n (m ∷ live) (a ∷ all) zero mail are at =
     let first : n ≡ n + 0 = omega arith in
-    (a, refl, subst (λ (x : Mail). IsOf setup (n + 0) x a) (some_mail m mail at) (subst (λ (number : ℕ). IsOf setup number m a) first are.0))
+    (a, refl, subst (λ (x : LiveMail). IsOf setup (n + 0) x a) (some_mail m mail at) (subst (λ (number : ℕ). IsOf setup number m a) first are.0))
 are-at setup n (m ∷ live) (a ∷ all) (suc k) mail are at =
     let (b, there, is) = are-at setup (n + 1) live all k mail are.1 at in
     let next : n + 1 + k ≡ n + suc k = omega arith in
@@ -403,7 +403,7 @@ own_org o a b (inr other) some = texts_is a b (sym some ∙ other)
     texts_is : (a b : Texts) → Some a ≡ Some b → a ≡ b
     texts_is a b e = cc
 
-input-is : (setup : Setup) (n m : ℕ) (mail : Mail) (r : ℕ) (org : Texts) (a : Accepted) → IsOf setup m mail a → org ≡ a.org →
+input-is : (setup : Setup) (n m : ℕ) (mail : LiveMail) (r : ℕ) (org : Texts) (a : Accepted) → IsOf setup m mail a → org ≡ a.org →
     setup.release_of org (input_of n mail r) ≡ release_for setup n a r
 input-is setup n m mail r org a is same =
     λ i. setup.release_of (same i) (input_at (first_input n (is.epoch i) (is.moment i) (is.submission i)) (is.opened i) r)
@@ -413,7 +413,7 @@ waits-low stages r None e h = absurd (cc)
 waits-low stages r (Some stage) e h = (stage, e)
 
 -- a release that waits to be categorised is one of the submission that was accepted at its place, and is that of its task
-pub waiting_accepted : (setup : Setup) (h : List Entry) → IsHistory setup h → (place release : ℕ) (mail : Mail) (org : Texts) →
+pub waiting_accepted : (setup : Setup) (h : List Entry) → IsHistory setup h → (place release : ℕ) (mail : LiveMail) (org : Texts) →
     slice_get (standing setup h).live place ≡ Some mail → mail.org ≡ Some org → waits mail release ≡ true →
     (a : Accepted) × (slice_get (accepted setup h) place ≡ Some a) × (release ≤ length a.opened)
     × (setup.release_of org (input_of (place + 1) mail release) ≡ release_for setup (place + 1) a release)

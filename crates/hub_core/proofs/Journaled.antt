@@ -8,7 +8,7 @@ use Rattle.std.proofs.lemmas.Grind.{fold-append}
 use Rattle.std.proofs.lemmas.List.Folds.{list_any-append}
 use Rattle.mail_names.specs.declared.gate.Gate.{Gate}
 use Rattle.moderation.specs.declared.approval.Verdict.TheVariants as verdicts
-use Rattle.mail_plan.proofs.Once.{joined-distinct}
+use Rattle.mail_plan.proofs.Offered.{joined-distinct}
 use Rattle.mail_plan.specs.Entries.{IsEntry, IsRelease, IsSubmission}
 use Rattle.mail_plan.specs.Planning.{Input, IsInput, Opening, Reports, is_among, are_distinct, targets, gates_of, moment_or, made_at, first_input, input_at}
 use Rattle.mail_plan.specs.declared.entry.Entry.{Entry}
@@ -16,7 +16,7 @@ use Rattle.mail_plan.specs.declared.entry.Entry.TheVariants as entries
 use Rattle.mail_plan.specs.declared.release.Release.{Release}
 use Rattle.hub_core.specs.Setup.{Setup}
 use Rattle.hub_core.specs.Approvals.{changed}
-use Rattle.hub_core.specs.Mail.{Mail, is_uncategorised}
+use Rattle.hub_core.specs.Mail.{LiveMail, is_uncategorised}
 use Rattle.mail_names.specs.Dates.{last_moment}
 use Rattle.hub_core.specs.Standing.{Standing, start, standing, state_after, mail_of, is_moment}
 use Rattle.hub_core.specs.Items.{Accepted, Past, no_past, past, past_after, accepted, release_for, opening_of, with_opening, IsStep, AreSteps, IsHistory}
@@ -46,14 +46,14 @@ all-join P [] ys h g = g
 all-join P (x ∷ xs) ys h g = (h.0, all-join P xs ys h.1 g)
 
 -- The target is sent by a release of the submission of this number that was categorised.
-record Sends (setup : Setup) (n : ℕ) (live : List Mail) (a : Accepted) (key : List ℕ) : Type 0 where
+record Sends (setup : Setup) (n : ℕ) (live : List LiveMail) (a : Accepted) (key : List ℕ) : Type 0 where
   release : ℕ
   low : release ≤ length a.opened
   known : WasCategorised n release live
   there : is_among key (targets (release_for setup n a release).items) ≡ true
 
 -- what holds of an accepted submission and of its releases that were categorised
-record Told (setup : Setup) (n : ℕ) (live : List Mail) (a : Accepted) (plans : List Release) : Type 0 where
+record Told (setup : Setup) (n : ℕ) (live : List LiveMail) (a : Accepted) (plans : List Release) : Type 0 where
   submission : IsSubmission a.submission
   moment : a.moment ≤ last_moment
   openings : AllByRecursion InTime a.opened
@@ -62,18 +62,18 @@ record Told (setup : Setup) (n : ℕ) (live : List Mail) (a : Accepted) (plans :
   sends : (key : List ℕ) → is_among key (sent plans) ≡ true → Sends setup n live a key
 
 -- and where nothing was accepted, nothing was categorised
-abbrev ToldAt : Setup → ℕ → List Mail → List Release → Option Accepted → Type 0
+abbrev ToldAt : Setup → ℕ → List LiveMail → List Release → Option Accepted → Type 0
 ToldAt setup n live plans None = plans ≡ []
 ToldAt setup n live plans (Some a) = Told setup n live a plans
 
 abbrev input_for : ℕ → Accepted → ℕ → Input
 input_for n a r = input_at (first_input n a.epoch a.moment a.submission) a.opened r
 
-is-input : (setup : Setup) (n : ℕ) (live : List Mail) (a : Accepted) (plans : List Release) → Told setup n live a plans → (r : ℕ) → IsInput (input_for n a r)
+is-input : (setup : Setup) (n : ℕ) (live : List LiveMail) (a : Accepted) (plans : List Release) → Told setup n live a plans → (r : ℕ) → IsInput (input_for n a r)
 is-input setup n live a plans told r = record { submission = told.submission; made = made-in-time a.moment a.opened r told.moment told.openings }
 
 -- What is categorised later leaves what is told.
-told-later : (setup : Setup) (n : ℕ) (live later : List Mail) (a : Accepted) (plans : List Release) → ((r : ℕ) → WasCategorised n r live → WasCategorised n r later) →
+told-later : (setup : Setup) (n : ℕ) (live later : List LiveMail) (a : Accepted) (plans : List Release) → ((r : ℕ) → WasCategorised n r live → WasCategorised n r later) →
     Told setup n live a plans → Told setup n later a plans
 told-later setup n live later a plans stays told = record {
   submission = told.submission;
@@ -84,13 +84,13 @@ told-later setup n live later a plans stays told = record {
   sends = λ key h. (let old = told.sends key h in record { release = old.release; low = old.low; known = stays old.release old.known; there = old.there });
 }
 
-at-later : (setup : Setup) (n : ℕ) (live later : List Mail) (plans : List Release) (at : Option Accepted) → ((r : ℕ) → WasCategorised n r live → WasCategorised n r later) →
+at-later : (setup : Setup) (n : ℕ) (live later : List LiveMail) (plans : List Release) (at : Option Accepted) → ((r : ℕ) → WasCategorised n r live → WasCategorised n r later) →
     ToldAt setup n live plans at → ToldAt setup n later plans at
 at-later setup n live later plans None stays told = told
 at-later setup n live later plans (Some a) stays told = told-later setup n live later a plans stays told
 
 -- So does what is opened later.
-told-opened : (setup : Setup) (n : ℕ) (live : List Mail) (a : Accepted) (plans : List Release) (more : List Opening) → AllByRecursion InTime more → Told setup n live a plans →
+told-opened : (setup : Setup) (n : ℕ) (live : List LiveMail) (a : Accepted) (plans : List Release) (more : List Opening) → AllByRecursion InTime more → Told setup n live a plans →
     Told setup n live (record a { opened = a.opened ++ more }) plans
 told-opened setup n live a plans more early told = record {
   submission = told.submission;
@@ -131,7 +131,7 @@ other-apart setup laws n a old new key differ h =
     never p = cc
 
 -- with a release more, which wasn't categorised before
-told-more : (setup : Setup) → IsPlanned setup → (n : ℕ) (live later : List Mail) (a : Accepted) (plans : List Release) (r : ℕ) → r ≤ length a.opened →
+told-more : (setup : Setup) → IsPlanned setup → (n : ℕ) (live later : List LiveMail) (a : Accepted) (plans : List Release) (r : ℕ) → r ≤ length a.opened →
     IsRelease (release_for setup n a r) → (WasCategorised n r live → ⊥) → ((k : ℕ) → WasCategorised n k live → WasCategorised n k later) → WasCategorised n r later →
     Told setup n live a plans → Told setup n later a (plans ++ release_for setup n a r ∷ [])
 told-more setup laws n live later a plans r low lawful fresh stays now told =
@@ -166,7 +166,7 @@ some_accepted : (a b : Accepted) → Some a ≡ Some b → a ≡ b
 some_accepted a b e = cc
 
 -- A change of a submission that leaves what is told leaves it for each.
-changed-at : (setup : Setup) (n j : ℕ) (live : List Mail) (plans : List Release) (g : Accepted → Accepted) → ((a : Accepted) → Told setup n live a plans → Told setup n live (g a) plans) →
+changed-at : (setup : Setup) (n j : ℕ) (live : List LiveMail) (plans : List Release) (g : Accepted → Accepted) → ((a : Accepted) → Told setup n live a plans → Told setup n live (g a) plans) →
     (all : List Accepted) → ToldAt setup n live plans (slice_get all (n - 1)) → ToldAt setup n live plans (slice_get (changed g j all) (n - 1))
 changed-at setup n j live plans g keeps all = by (slice_get all (n - 1)) refl
   where
@@ -187,7 +187,7 @@ changed-at setup n j live plans g keeps all = by (slice_get all (n - 1)) refl
         ]
 
 -- A submission that is accepted was not there, and none of its releases was categorised.
-pushed-at : (setup : Setup) (n : ℕ) (live : List Mail) (plans : List Release) (new : Accepted) → IsSubmission new.submission → new.moment ≤ last_moment → new.opened ≡ [] →
+pushed-at : (setup : Setup) (n : ℕ) (live : List LiveMail) (plans : List Release) (new : Accepted) → IsSubmission new.submission → new.moment ≤ last_moment → new.opened ≡ [] →
     (all : List Accepted) → ToldAt setup n live plans (slice_get all (n - 1)) → ToldAt setup n live plans (slice_get (all ++ new ∷ []) (n - 1))
 pushed-at setup n live plans new submission moment closed all = by (slice_get all (n - 1)) refl
   where
@@ -225,7 +225,7 @@ opening-in-time None moment low = tt
 opening-in-time (Some gate) moment low = (low, tt)
 
 -- with no release more
-none-more : (setup : Setup) (n : ℕ) (live : List Mail) (plans : List Release) (at : Option Accepted) → ToldAt setup n live plans at → ToldAt setup n live (plans ++ []) at
+none-more : (setup : Setup) (n : ℕ) (live : List LiveMail) (plans : List Release) (at : Option Accepted) → ToldAt setup n live plans at → ToldAt setup n live (plans ++ []) at
 none-more setup n live plans at told = subst (λ (xs : List Release). ToldAt setup n live xs at) (sym (append-nil plans)) told
 
 -- An entry that categorises a release of the submission of this number tells of it.

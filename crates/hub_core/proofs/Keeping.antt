@@ -19,7 +19,7 @@ use Rattle.org_directory.specs.declared.object.Tell.TheVariants as tellings
 use Rattle.hub_core.specs.Setup.{Texts, Setup}
 use Rattle.hub_core.specs.Ending.{is_inside, is_told}
 use Rattle.hub_core.specs.Approvals.{Stage, changed, pends, stage_open, decided_asking, decided_stage, expired_asking, expired_stage, asking_in}
-use Rattle.hub_core.specs.Mail.{Mail, IsLive, freed, waits, waits_in, asking_at, decided_with, decided_mail, can_decide, decision_in, is_taken}
+use Rattle.hub_core.specs.Mail.{LiveMail, IsLive, freed, waits, waits_in, asking_at, decided_with, decided_mail, can_decide, decision_in, is_taken}
 use Rattle.hub_core.proofs.Changing.{changed-tail, changed-set, changed-length, changed-push}
 
 true≢false : true ≡ false → ⊥
@@ -101,7 +101,7 @@ has_org true org there = there refl
 has_org false org there = refl
 
 -- the organisation is given up where nothing needs it any more
-pub kept-live : (old : Mail) (stages : List Stage) (org : Option Texts) → IsLive old → length stages ≡ length old.stages → (list_any stage_open stages ≡ true → list_any stage_open old.stages ≡ true) →
+pub kept-live : (old : LiveMail) (stages : List Stage) (org : Option Texts) → IsLive old → length stages ≡ length old.stages → (list_any stage_open stages ≡ true → list_any stage_open old.stages ≡ true) →
     org ≡ cond (list_any stage_open stages) old.org None → IsLive (record old { org = org; stages = stages })
 kept-live old stages org live same before is = record {
   moment = live.moment;
@@ -110,21 +110,21 @@ kept-live old stages org live same before is = record {
   few = let few = live.few in omega (arith, same, few);
 }
 
-freed_as : (t : Bool) (old : Mail) (stages : List Stage) → record old { org = cond t old.org None; stages = stages } ≡ cond t (record old { stages = stages }) (record old { org = None; stages = stages })
+freed_as : (t : Bool) (old : LiveMail) (stages : List Stage) → record old { org = cond t old.org None; stages = stages } ≡ cond t (record old { stages = stages }) (record old { org = None; stages = stages })
 freed_as true old stages = refl
 freed_as false old stages = refl
 
-pub freed-is : (old : Mail) (stages : List Stage) (org : Option Texts) → org ≡ cond (list_any stage_open stages) old.org None →
+pub freed-is : (old : LiveMail) (stages : List Stage) (org : Option Texts) → org ≡ cond (list_any stage_open stages) old.org None →
     record old { org = org; stages = stages } ≡ freed (record old { stages = stages })
 freed-is old stages org is =
     ap (λ (o : Option Texts). record old { org = o; stages = stages }) is ∙ freed_as (list_any stage_open stages) old stages
 
-freed_none : (t : Bool) (mail : Mail) → t ≡ true → cond t mail (record mail { org = None }) ≡ mail
+freed_none : (t : Bool) (mail : LiveMail) → t ≡ true → cond t mail (record mail { org = None }) ≡ mail
 freed_none true mail e = refl
 freed_none false mail e = absurd (true≢false (sym e))
 
 -- What is open keeps its organisation.
-pub freed-open : (mail : Mail) → list_any stage_open mail.stages ≡ true → freed mail ≡ mail
+pub freed-open : (mail : LiveMail) → list_any stage_open mail.stages ≡ true → freed mail ≡ mail
 freed-open mail is = freed_none (list_any stage_open mail.stages) mail is
 
 answer_pends : (place : Option ℕ) (state : ApprovalState) (deadline moment : ℕ) → is_taken (Some (answer place state deadline moment)) ≡ true → is_pending state ≡ true
@@ -134,7 +134,7 @@ answer_pends (Some place) states.Ended deadline moment e = absurd (true≢false 
 answer_pends (Some place) states.Pending deadline moment e = refl
 
 -- A decision that is taken is on an approval that pends, of a release that stands.
-pub record Takes (mail : Mail) (name : ApprovalName) (verdict : Verdict) : Type 0 where
+pub record Takes (mail : LiveMail) (name : ApprovalName) (verdict : Verdict) : Type 0 where
   pub asking : Asking
   pub at : asking_at mail name ≡ Some asking
   pub pends : pends asking ≡ true
@@ -147,7 +147,7 @@ takes_by true (Some asking) by moment e =
     (asking, refl, answer_pends (place_of asking.approval by) asking.approval.state asking.approval.deadline moment e, refl)
 takes_by false at by moment e = absurd (true≢false (sym e))
 
-pub takes : (mail : Mail) (name : ApprovalName) (by : List ℕ) (verdict : Verdict) (moment : ℕ) → is_taken (decision_in (Some mail) name by verdict moment) ≡ true → Takes mail name verdict
+pub takes : (mail : LiveMail) (name : ApprovalName) (by : List ℕ) (verdict : Verdict) (moment : ℕ) → is_taken (decision_in (Some mail) name by verdict moment) ≡ true → Takes mail name verdict
 takes mail name by verdict moment e =
     let parts = takes_by (can_decide verdict mail) (asking_at mail name) by moment e in
     record { asking = parts.0; at = parts.1; pends = parts.2; can = parts.3 }
@@ -158,7 +158,7 @@ asked_in (Some None) gate asking e = absurd (no_item asking e)
 asked_in (Some (Some asks)) gate asking e = (asks, refl, e)
 
 -- its submission is open
-pub asked-open : (mail : Mail) (name : ApprovalName) (asking : Asking) → asking_at mail name ≡ Some asking → pends asking ≡ true → list_any stage_open mail.stages ≡ true
+pub asked-open : (mail : LiveMail) (name : ApprovalName) (asking : Asking) → asking_at mail name ≡ Some asking → pends asking ≡ true → list_any stage_open mail.stages ≡ true
 asked-open mail name asking at is =
     let (asks, stands, has) = asked_in (slice_get mail.stages name.release) name.gate asking at in
     any-at stage_open name.release (Some asks) mail.stages stands (any-at pends name.gate asking asks has is)
@@ -168,7 +168,7 @@ within [] k x e = absurd (no_item x e)
 within (y ∷ ys) zero x e = omega arith
 within (y ∷ ys) (suc k) x e = let rest = within ys k x e in omega (arith, rest)
 
-pub asked-within : (mail : Mail) (name : ApprovalName) (asking : Asking) → asking_at mail name ≡ Some asking → name.release < length mail.stages
+pub asked-within : (mail : LiveMail) (name : ApprovalName) (asking : Asking) → asking_at mail name ≡ Some asking → name.release < length mail.stages
 asked-within mail name asking at =
     let (asks, stands, has) = asked_in (slice_get mail.stages name.release) name.gate asking at in
     within mail.stages name.release (Some asks) stands
@@ -179,13 +179,13 @@ waited (Some None) e = refl
 waited (Some (Some asks)) e = absurd (true≢false (sym e))
 
 -- What waits to be categorised is open, and has its organisation.
-pub waits-open : (mail : Mail) (release : ℕ) → waits mail release ≡ true → list_any stage_open mail.stages ≡ true
+pub waits-open : (mail : LiveMail) (release : ℕ) → waits mail release ≡ true → list_any stage_open mail.stages ≡ true
 waits-open mail release e = any-at stage_open release None mail.stages (waited (slice_get mail.stages release) e) refl
 
-waits-kept : (mail : Mail) (release : ℕ) → IsLive mail → waits mail release ≡ true → is_some mail.org ≡ true
+waits-kept : (mail : LiveMail) (release : ℕ) → IsLive mail → waits mail release ≡ true → is_some mail.org ≡ true
 waits-kept mail release live e = live.needed ∙ waits-open mail release e
 
-pub none-waits : (mail : Mail) (release : ℕ) → IsLive mail → mail.org ≡ None → false ≡ waits mail release
+pub none-waits : (mail : LiveMail) (release : ℕ) → IsLive mail → mail.org ≡ None → false ≡ waits mail release
 none-waits mail release live none = by (waits mail release) refl
   where
     by : (t : Bool) → waits mail release ≡ t → false ≡ t
@@ -205,19 +205,19 @@ module _ {Org : Type 0} (f : Org → Texts) where
       ∙ ap (λ (l : List Stage). cond (list_any stage_open l) (option_map f held) None) same
       ∙ ap (λ (o : Option Texts). cond (list_any stage_open stages) o None) (sym has)
 
-  pub free-live : (old : Mail) (held kept : Option Org) (stages seen : List Stage) → old.org ≡ option_map f held → IsLive old → length stages ≡ length old.stages →
+  pub free-live : (old : LiveMail) (held kept : Option Org) (stages seen : List Stage) → old.org ≡ option_map f held → IsLive old → length stages ≡ length old.stages →
       (list_any stage_open stages ≡ true → list_any stage_open old.stages ≡ true) → seen ≡ stages → kept ≡ cond (list_any stage_open seen) held None →
       IsLive (record old { org = option_map f kept; stages = stages })
   free-live old held kept stages seen has live size before same is =
       kept-live old stages (option_map f kept) live size before (given_up old.org held kept stages seen has same is)
 
-  pub free-is : (old : Mail) (held kept : Option Org) (stages seen : List Stage) → old.org ≡ option_map f held → seen ≡ stages → kept ≡ cond (list_any stage_open seen) held None →
+  pub free-is : (old : LiveMail) (held kept : Option Org) (stages seen : List Stage) → old.org ≡ option_map f held → seen ≡ stages → kept ≡ cond (list_any stage_open seen) held None →
       record old { org = option_map f kept; stages = stages } ≡ freed (record old { stages = stages })
   free-is old held kept stages seen has same is =
       freed-is old stages (option_map f kept) (given_up old.org held kept stages seen has same is)
 
 -- What is refused.
-pub refused-is : (old : Mail) (name : ApprovalName) (by : List ℕ) (moment : ℕ) (asking : Asking) → asking_at old name ≡ Some asking →
+pub refused-is : (old : LiveMail) (name : ApprovalName) (by : List ℕ) (moment : ℕ) (asking : Asking) → asking_at old name ≡ Some asking →
     freed (record old { stages = changed (decided_stage name.gate by verdicts.Reject moment) name.release old.stages }) ≡ decided_mail name by verdicts.Reject moment old
 refused-is old name by moment asking at =
     sym (ap (λ (o : Option Asking). decided_with o name by verdicts.Reject moment old) at)
@@ -234,7 +234,7 @@ pushed-length [] y = refl
 pushed-length (x ∷ xs) y = ap (λ n. suc n) (pushed-length xs y)
 
 -- What is approved has a release more.
-pub approved-live : (old : Mail) (name : ApprovalName) (by : List ℕ) (moment : ℕ) (opening : Opening) → IsLive old → is_taken (decision_in (Some old) name by verdicts.Approve moment) ≡ true →
+pub approved-live : (old : LiveMail) (name : ApprovalName) (by : List ℕ) (moment : ℕ) (opening : Opening) → IsLive old → is_taken (decision_in (Some old) name by verdicts.Approve moment) ≡ true →
     IsLive (record old { opened = old.opened ++ opening ∷ []; stages = changed (decided_stage name.gate by verdicts.Approve moment) name.release old.stages ++ None ∷ [] })
 approved-live old name by moment opening live taken =
     let is = takes old name by verdicts.Approve moment taken in
@@ -249,13 +249,13 @@ approved-live old name by moment opening live taken =
       few = omega (arith, size, below);
     }
 
-pub approved-is : (old : Mail) (name : ApprovalName) (by : List ℕ) (moment : ℕ) (asking : Asking) → asking_at old name ≡ Some asking →
+pub approved-is : (old : LiveMail) (name : ApprovalName) (by : List ℕ) (moment : ℕ) (asking : Asking) → asking_at old name ≡ Some asking →
     record old { opened = old.opened ++ (record { gate = asking.approval.gate; moment = moment }) ∷ []; stages = changed (decided_stage name.gate by verdicts.Approve moment) name.release old.stages ++ None ∷ [] }
     ≡ decided_mail name by verdicts.Approve moment old
 approved-is old name by moment asking at =
     let f = decided_stage name.gate by verdicts.Approve moment in
     let opened = old.opened ++ (record { gate = asking.approval.gate; moment = moment }) ∷ [] in
-    let after : Mail = record old { opened = opened; stages = changed f name.release old.stages ++ None ∷ [] } in
+    let after : LiveMail = record old { opened = opened; stages = changed f name.release old.stages ++ None ∷ [] } in
     sym (ap (λ (o : Option Asking). decided_with o name by verdicts.Approve moment old) at ∙ freed-open after (open_pushed (changed f name.release old.stages)))
 
 -- as a push and then a decision make it

@@ -25,3 +25,4 @@ mod Reporting
 mod Planned
 mod Categorised
 mod Journaled
+pub mod Offered

@@ -9,7 +9,7 @@ use Rattle.std.proofs.lemmas.Slice.Eq.{bytes_eq-Decides}
 use Rattle.mail_plan.specs.Submission.{Submitted, option_eq, same_mark, same_submission, has_message_id}
 use Rattle.mail_plan.specs.declared.submission.Origin.{Origin}
 use Rattle.mail_plan.specs.declared.submission.Origin.TheVariants as origins
-use Rattle.hub_core.specs.Mail.{Mail}
+use Rattle.hub_core.specs.Mail.{LiveMail}
 use Rattle.hub_core.specs.Standing.{place_of_same}
 use Rattle.hub_core.specs.Repeats.{chained, path_octets, digest_under, digest_from, digest_of, is_digest, has_digest, found_or, place_at, IsIndex, repeats_at}
 use Rattle.hub_core.proofs.Room.{submission_of}
@@ -91,40 +91,40 @@ no_repeat a b none e =
     let s = same_is a b e in
     has_one a.origin b.origin (has_message_id b.bytes) b (ap (λ (bytes : List ℕ). has_message_id bytes || same_mark a.origin b.origin) (sym s.bytes) ∙ s.again) none
 
-narrower : (s : Submitted) (digest : List ℕ) → digest_of s ≡ Some digest → (live : Mail) → same_submission live.submission s ≡ true → has_digest digest live ≡ true
+narrower : (s : Submitted) (digest : List ℕ) → digest_of s ≡ Some digest → (live : LiveMail) → same_submission live.submission s ≡ true → has_digest digest live ≡ true
 narrower s digest own live e = ap (is_digest digest) (repeat_digest live.submission s e ∙ own) ∙ (bytes_eq-Decides digest digest).1 refl
 
-pub place-without : (s : Submitted) (lives : List Mail) → digest_of s ≡ None → place_of_same s lives ≡ None
-place-without s lives none = position-never (λ (live : Mail). same_submission live.submission s) lives (λ live e. no_repeat live.submission s none e)
+pub place-without : (s : Submitted) (lives : List LiveMail) → digest_of s ≡ None → place_of_same s lives ≡ None
+place-without s lives none = position-never (λ (live : LiveMail). same_submission live.submission s) lives (λ live e. no_repeat live.submission s none e)
 
-pub place-missed : (s : Submitted) (index : BTreeMap (List ℕ) ℕ) (lives : List Mail) (digest : List ℕ) → IsIndex index lives → digest_of s ≡ Some digest → place_at index digest ≡ None → place_of_same s lives ≡ None
+pub place-missed : (s : Submitted) (index : BTreeMap (List ℕ) ℕ) (lives : List LiveMail) (digest : List ℕ) → IsIndex index lives → digest_of s ≡ Some digest → place_at index digest ≡ None → place_of_same s lives ≡ None
 place-missed s index lives digest indexed own none =
-    position-none (λ (live : Mail). same_submission live.submission s) (has_digest digest) lives (narrower s digest own) (sym (indexed digest) ∙ none)
+    position-none (λ (live : LiveMail). same_submission live.submission s) (has_digest digest) lives (narrower s digest own) (sym (indexed digest) ∙ none)
 
-stands : (o : Option Mail) (s : Submitted) → repeats_at o s ≡ true → (live : Mail) × (o ≡ Some live) × (same_submission live.submission s ≡ true)
+stands : (o : Option LiveMail) (s : Submitted) → repeats_at o s ≡ true → (live : LiveMail) × (o ≡ Some live) × (same_submission live.submission s ≡ true)
 stands None s e = absurd (true≢false (sym e))
 stands (Some live) s e = (live, refl, e)
 
-pub place-hit : (s : Submitted) (index : BTreeMap (List ℕ) ℕ) (lives : List Mail) (digest : List ℕ) (place : ℕ) → IsIndex index lives → digest_of s ≡ Some digest → place_at index digest ≡ Some place →
+pub place-hit : (s : Submitted) (index : BTreeMap (List ℕ) ℕ) (lives : List LiveMail) (digest : List ℕ) (place : ℕ) → IsIndex index lives → digest_of s ≡ Some digest → place_at index digest ≡ Some place →
     repeats_at (slice_get lives place) s ≡ true → place_of_same s lives ≡ Some place
 place-hit s index lives digest place indexed own at again =
     let there = stands (slice_get lives place) s again in
-    position-agrees (λ (live : Mail). same_submission live.submission s) (has_digest digest) lives place there.0 (narrower s digest own) there.1 there.2 (sym (indexed digest) ∙ at)
+    position-agrees (λ (live : LiveMail). same_submission live.submission s) (has_digest digest) lives place there.0 (narrower s digest own) there.1 there.2 (sym (indexed digest) ∙ at)
 
-by_submissions : (digest : List ℕ) (k : ℕ) (live : List Mail) → position_from (has_digest digest) k live ≡ position_from (λ s. is_digest digest (digest_of s)) k (map submission_of live)
+by_submissions : (digest : List ℕ) (k : ℕ) (live : List LiveMail) → position_from (has_digest digest) k live ≡ position_from (λ s. is_digest digest (digest_of s)) k (map submission_of live)
 by_submissions digest k [] = refl
 by_submissions digest k (mail ∷ live) =
     ap (λ rest. cond (has_digest digest mail) (Some k) rest) (by_submissions digest (k + 1) live)
 
 -- an index stays one as long as the submissions stay
-pub index-same : (index : BTreeMap (List ℕ) ℕ) (live live' : List Mail) → map submission_of live ≡ map submission_of live' → IsIndex index live → IsIndex index live'
+pub index-same : (index : BTreeMap (List ℕ) ℕ) (live live' : List LiveMail) → map submission_of live ≡ map submission_of live' → IsIndex index live → IsIndex index live'
 index-same index live live' same indexed = λ digest.
     indexed digest ∙ position_from-zero (has_digest digest) live ∙ by_submissions digest 0 live
     ∙ ap (position_from (λ s. is_digest digest (digest_of s)) 0) same ∙ sym (by_submissions digest 0 live')
     ∙ sym (position_from-zero (has_digest digest) live')
 
 -- an index with the place of one submission more
-pub index-pushed : (old new : BTreeMap (List ℕ) ℕ) (lives : List Mail) (live : Mail) → IsIndex old lives →
+pub index-pushed : (old new : BTreeMap (List ℕ) ℕ) (lives : List LiveMail) (live : LiveMail) → IsIndex old lives →
     ((digest : List ℕ) → place_at new digest ≡ found_or (place_at old digest) (is_digest digest (digest_of live.submission)) (length lives)) → IsIndex new (lives ++ live ∷ [])
 index-pushed old new lives live indexed noted = λ digest.
     noted digest ∙ ap (λ o. found_or o (has_digest digest live) (length lives)) (indexed digest) ∙ sym (position-push (has_digest digest) lives live)

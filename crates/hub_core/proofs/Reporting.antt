@@ -6,7 +6,7 @@ use Rattle.std.proofs.lemmas.List.{map-append}
 use Rattle.std.proofs.lemmas.List.Elements.{filter-append}
 use Rattle.journal_report.specs.declared.parts.Line.{Line}
 use Rattle.journal_report.specs.Listed.{ListTogether}
-use Rattle.journal_report.proofs.Listing.{go_on, one_lists}
+use Rattle.journal_report.proofs.Offered.{go_on, one_lists}
 use Rattle.mail_plan.specs.Planning.{Reports, is_among, are_distinct, is_version, targets, lines_of, lines_taken, reports_to}
 use Rattle.mail_plan.specs.declared.release.Item.{Item}
 use Rattle.mail_plan.specs.declared.release.Release.{Release}

@@ -21,7 +21,7 @@ use Rattle.hub_core.specs.declared.asking.Asking.{Asking}
 use Rattle.hub_core.specs.declared.queue.QueuedItem.{QueuedItem}
 use Rattle.hub_core.specs.Setup.{Setup}
 use Rattle.hub_core.specs.Approvals.{Stage, changed, pends, asking_of, asks_in, stage_open, decided_asking, decided_stage, expired_asking, expired_stage}
-use Rattle.hub_core.specs.Mail.{Mail, freed, waits_in, waits, with_asks, categorised, asking_at, opened_by, decided_with, decided_mail, expired_mail, is_taken}
+use Rattle.hub_core.specs.Mail.{LiveMail, freed, waits_in, waits, with_asks, categorised, asking_at, opened_by, decided_with, decided_mail, expired_mail, is_taken}
 use Rattle.hub_core.specs.Ending.{is_told, approval_name, end_name, end_notice, told, end_told, run_out_told, asks_told, stages_told, all_told}
 use Rattle.hub_core.specs.Standing.{Standing, state_after, mail_of, refused_told, decided_told, told_by}
 use Rattle.hub_core.proofs.Agreeing.{asking-there, mail-there}
@@ -37,8 +37,8 @@ Done stages release gate =
     (asks : List Asking) × (slice_get stages release ≡ Some (Some asks)) × ((asking : Asking) × (slice_get asks gate ≡ Some asking) × (pends asking ≡ false))
 
 -- and the release is one of these submissions, where the name says
-abbrev pub Settled : ItemName → List Mail → Type 0
-Settled name live = (mail : Mail) × (slice_get live (name.submission - 1) ≡ Some mail) × Done mail.stages name.release name.place
+abbrev pub Settled : ItemName → List LiveMail → Type 0
+Settled name live = (mail : LiveMail) × (slice_get live (name.submission - 1) ≡ Some mail) × Done mail.stages name.release name.place
 
 decided-stays : (place : Option ℕ) (state : ApprovalState) (deadline moment : ℕ) (verdict : Verdict) → is_pending state ≡ false →
     is_pending (state_with place verdict (answer place state deadline moment) state) ≡ false
@@ -75,14 +75,14 @@ expired-ends : (b : Bool) (state : ApprovalState) → b ≡ true → is_pending 
 expired-ends true state e = refl
 expired-ends false state e = absurd (cc)
 
-pub freed-stages : (mail : Mail) → (freed mail).stages ≡ mail.stages
+pub freed-stages : (mail : LiveMail) → (freed mail).stages ≡ mail.stages
 freed-stages mail = by (list_any stage_open mail.stages)
   where
     by : (b : Bool) → (cond b mail (record mail { org = None })).stages ≡ mail.stages
     by true = refl
     by false = refl
 
-freed-done : (mail : Mail) (r g : ℕ) → Done mail.stages r g → Done (freed mail).stages r g
+freed-done : (mail : LiveMail) (r g : ℕ) → Done mail.stages r g → Done (freed mail).stages r g
 freed-done mail r g done = subst (λ (stages : List Stage). Done stages r g) (sym (freed-stages mail)) done
 
 pub some_waits : (asks : List Asking) (at : Option Stage) → at ≡ Some (Some asks) → waits_in at ≡ true → ⊥
@@ -91,7 +91,7 @@ some_waits asks at e h = absurd (no (sym (ap waits_in e) ∙ h))
     no : false ≡ true → ⊥
     no p = cc
 
-categorised-done : (release : ℕ) (plan : Release) (mail : Mail) (r g : ℕ) → Done mail.stages r g → Done (categorised release plan mail).stages r g
+categorised-done : (release : ℕ) (plan : Release) (mail : LiveMail) (r g : ℕ) → Done mail.stages r g → Done (categorised release plan mail).stages r g
 categorised-done release plan mail r g done = by (waits mail release) refl
   where
     asks : List Asking
@@ -142,24 +142,24 @@ mapped-done f keeps stages r g done =
     let was = keeps done.0 g done.2.0 done.2.1 done.2.2 in
     (was.0, get-map f stages r (Some done.0) done.1 ∙ ap (λ (s : Stage). Some s) was.1, was.2)
 
-expired-done : (moment : ℕ) (mail : Mail) (r g : ℕ) → Done mail.stages r g → Done (expired_mail moment mail).stages r g
+expired-done : (moment : ℕ) (mail : LiveMail) (r g : ℕ) → Done mail.stages r g → Done (expired_mail moment mail).stages r g
 expired-done moment mail r g done =
     freed-done (record mail { stages = map (expired_stage moment) mail.stages }) r g (mapped-done (expired_stage moment) (expired-keeps moment) mail.stages r g done)
 
-opened-done : (verdict : Verdict) (asking : Asking) (moment : ℕ) (mail : Mail) (r g : ℕ) → Done mail.stages r g → Done (opened_by verdict asking moment mail).stages r g
+opened-done : (verdict : Verdict) (asking : Asking) (moment : ℕ) (mail : LiveMail) (r g : ℕ) → Done mail.stages r g → Done (opened_by verdict asking moment mail).stages r g
 opened-done verdicts.Approve asking moment mail r g done = (done.0, get-append mail.stages (None ∷ []) r (Some done.0) done.1, done.2)
 opened-done verdicts.Reject asking moment mail r g done = done
 
-decided-done : (at : Option Asking) (name : ApprovalName) (by : List ℕ) (verdict : Verdict) (moment : ℕ) (mail : Mail) (r g : ℕ) → Done mail.stages r g →
+decided-done : (at : Option Asking) (name : ApprovalName) (by : List ℕ) (verdict : Verdict) (moment : ℕ) (mail : LiveMail) (r g : ℕ) → Done mail.stages r g →
     Done (decided_with at name by verdict moment mail).stages r g
 decided-done None name by verdict moment mail r g done = done
 decided-done (Some asking) name by verdict moment mail r g done =
     let f = decided_stage name.gate by verdict moment in
-    let with = (let m : Mail = record mail { stages = changed f name.release mail.stages } in m) in
+    let with = (let m : LiveMail = record mail { stages = changed f name.release mail.stages } in m) in
     freed-done (opened_by verdict asking moment with) r g
     (opened-done verdict asking moment with r g (changed-done f (decided-keeps name.gate by verdict moment) mail.stages name.release r g done))
 
-changed-settled : (f : Mail → Mail) → ((mail : Mail) (r g : ℕ) → Done mail.stages r g → Done (f mail).stages r g) → (k : ℕ) (live : List Mail) (name : ItemName) →
+changed-settled : (f : LiveMail → LiveMail) → ((mail : LiveMail) (r g : ℕ) → Done mail.stages r g → Done (f mail).stages r g) → (k : ℕ) (live : List LiveMail) (name : ItemName) →
     Settled name live → Settled name (changed f k live)
 changed-settled f keeps k live name is =
     elim (get-changed f live k (name.submission - 1) is.0 is.1) [
@@ -187,7 +187,7 @@ pub all-both : (P : ItemName → Type 0) (xs ys : List QueuedItem) → All P xs 
 all-both P [] ys h g = g
 all-both P (x ∷ xs) ys h g = (h.0, all-both P xs ys h.1 g)
 
-pub told-all : (P : ItemName → Type 0) (setup : Setup) (name : ApprovalName) (mail : Mail) (asking : Asking) (moment : ℕ) (what : Notice) (sender : Option (List ℕ)) →
+pub told-all : (P : ItemName → Type 0) (setup : Setup) (name : ApprovalName) (mail : LiveMail) (asking : Asking) (moment : ℕ) (what : Notice) (sender : Option (List ℕ)) →
     P (end_name name) → All P (told setup name mail asking moment what sender)
 told-all P setup name mail asking moment what None p = tt
 told-all P setup name mail asking moment what (Some sender) p = by (is_told setup mail.org sender asking.tell)
@@ -196,7 +196,7 @@ told-all P setup name mail asking moment what (Some sender) p = by (is_told setu
     by true = (p, tt)
     by false = tt
 
-pub run-out-all : (P : ItemName → Type 0) (setup : Setup) (name : ApprovalName) (mail : Mail) (asking : Asking) (moment : ℕ) →
+pub run-out-all : (P : ItemName → Type 0) (setup : Setup) (name : ApprovalName) (mail : LiveMail) (asking : Asking) (moment : ℕ) →
     (runs_out asking.approval moment ≡ true → P (end_name name)) → All P (run_out_told setup name mail asking moment)
 run-out-all P setup name mail asking moment p = by (runs_out asking.approval moment) p
   where
@@ -205,7 +205,7 @@ run-out-all P setup name mail asking moment p = by (runs_out asking.approval mom
     by true q = told-all P setup name mail asking moment (notices.RanOut name asking.label asking.approval.deadline) mail.submission.reverse (q refl)
     by false q = tt
 
-pub asks-all : (P : ItemName → Type 0) (setup : Setup) (mail : Mail) (moment n r gate : ℕ) (asks : List Asking) →
+pub asks-all : (P : ItemName → Type 0) (setup : Setup) (mail : LiveMail) (moment n r gate : ℕ) (asks : List Asking) →
     ((k at : ℕ) (asking : Asking) → at ≡ gate + k → slice_get asks k ≡ Some asking → runs_out asking.approval moment ≡ true → P (end_name (approval_name n r at))) →
     All P (asks_told setup mail moment n r gate asks)
 asks-all P setup mail moment n r gate [] p = tt
@@ -219,7 +219,7 @@ abbrev pub RunsOut : ℕ → List Stage → ℕ → ℕ → Type 0
 RunsOut moment stages r g =
     (asks : List Asking) × (slice_get stages r ≡ Some (Some asks)) × ((asking : Asking) × (slice_get asks g ≡ Some asking) × (runs_out asking.approval moment ≡ true))
 
-pub stage-all : (P : ItemName → Type 0) (setup : Setup) (mail : Mail) (moment n r : ℕ) (stage : Stage) →
+pub stage-all : (P : ItemName → Type 0) (setup : Setup) (mail : LiveMail) (moment n r : ℕ) (stage : Stage) →
     ((asks : List Asking) (g : ℕ) (asking : Asking) → stage ≡ Some asks → slice_get asks g ≡ Some asking → runs_out asking.approval moment ≡ true →
     P (end_name (approval_name n r g))) → All P (asks_told setup mail moment n r 0 (asks_in stage))
 stage-all P setup mail moment n r None p = tt
@@ -228,7 +228,7 @@ stage-all P setup mail moment n r (Some asks) p =
     (λ k at asking e there out.
     subst (λ (g : ℕ). P (end_name (approval_name n r g))) (let same : k ≡ at = omega arith in same) (p asks k asking refl there out))
 
-pub stages-all : (P : ItemName → Type 0) (setup : Setup) (mail : Mail) (moment n r : ℕ) (stages : List Stage) →
+pub stages-all : (P : ItemName → Type 0) (setup : Setup) (mail : LiveMail) (moment n r : ℕ) (stages : List Stage) →
     ((k at g : ℕ) → at ≡ r + k → RunsOut moment stages k g → P (end_name (approval_name n at g))) → All P (stages_told setup mail moment n r stages)
 stages-all P setup mail moment n r [] p = tt
 stages-all P setup mail moment n r (stage ∷ stages) p =
@@ -237,8 +237,8 @@ stages-all P setup mail moment n r (stage ∷ stages) p =
     (λ asks g asking same there out. p zero r g (omega arith) (asks, ap (λ (s : Stage). Some s) same, (asking, there, out))))
     (stages-all P setup mail moment n (r + 1) stages (λ k at g e out. p (suc k) at g (omega arith) out))
 
-pub all-all : (P : ItemName → Type 0) (setup : Setup) (moment n : ℕ) (live : List Mail) →
-    ((k at r g : ℕ) (mail : Mail) → at ≡ n + k → slice_get live k ≡ Some mail → RunsOut moment mail.stages r g → P (end_name (approval_name at r g))) →
+pub all-all : (P : ItemName → Type 0) (setup : Setup) (moment n : ℕ) (live : List LiveMail) →
+    ((k at r g : ℕ) (mail : LiveMail) → at ≡ n + k → slice_get live k ≡ Some mail → RunsOut moment mail.stages r g → P (end_name (approval_name at r g))) →
     All P (all_told setup moment n live)
 all-all P setup moment n [] p = tt
 all-all P setup moment n (mail ∷ live) p =
@@ -249,7 +249,7 @@ all-all P setup moment n (mail ∷ live) p =
     (all-all P setup moment (n + 1) live (λ k at r g other e there out. p (suc k) at r g other (omega arith) there out))
 
 -- What is told of pends before, and doesn't after.
-pub record Ends (before after : List Mail) (name : ItemName) : Type 0 where
+pub record Ends (before after : List LiveMail) (name : ItemName) : Type 0 where
   pub fresh : Settled name before → ⊥
   pub settled : Settled name after
   pub mark : name.mark ≡ marks.Gate
@@ -270,14 +270,14 @@ pending stages r g asks asking stage ask still done =
     no : true ≡ false → ⊥
     no p = cc
 
-mail_is : (a b : Mail) → Some a ≡ Some b → a ≡ b
+mail_is : (a b : LiveMail) → Some a ≡ Some b → a ≡ b
 mail_is a b e = cc
 
 first : (a b : Bool) → (a && b) ≡ true → a ≡ true
 first true b h = refl
 first false b h = absurd (cc)
 
-run-out-ends : (setup : Setup) (moment : ℕ) (live : List Mail) (k at r g : ℕ) (mail : Mail) → at ≡ 1 + k → slice_get live k ≡ Some mail → RunsOut moment mail.stages r g →
+run-out-ends : (setup : Setup) (moment : ℕ) (live : List LiveMail) (k at r g : ℕ) (mail : LiveMail) → at ≡ 1 + k → slice_get live k ≡ Some mail → RunsOut moment mail.stages r g →
     Ends live (map (expired_mail moment) live) (end_name (approval_name at r g))
 run-out-ends setup moment live k at r g mail e there out =
     let (asks, stage, (asking, ask, ends)) = out in
@@ -286,7 +286,7 @@ run-out-ends setup moment live k at r g mail e there out =
     record {
       fresh = λ settled.
           pending mail.stages r g asks asking stage ask (first (is_pending asking.approval.state) (nat_le asking.approval.deadline moment) ends)
-          (subst (λ (m : Mail). Done m.stages r g) (mail_is settled.0 mail (sym settled.1 ∙ stands)) settled.2);
+          (subst (λ (m : LiveMail). Done m.stages r g) (mail_is settled.0 mail (sym settled.1 ∙ stands)) settled.2);
       settled = (
         expired_mail moment mail,
         get-map (expired_mail moment) live (at - 1) mail stands,
@@ -303,7 +303,7 @@ run-out-ends setup moment live k at r g mail e there out =
       mark = refl;
     }
 
-refusal-ends : (live : List Mail) (name : ApprovalName) (by : List ℕ) (moment : ℕ) (mail : Mail) (asking : Asking) → slice_get live (name.submission - 1) ≡ Some mail →
+refusal-ends : (live : List LiveMail) (name : ApprovalName) (by : List ℕ) (moment : ℕ) (mail : LiveMail) (asking : Asking) → slice_get live (name.submission - 1) ≡ Some mail →
     asking_at mail name ≡ Some asking → is_taken (Some (decide_answer asking.approval by moment)) ≡ true →
     Ends live (changed (decided_mail name by verdicts.Reject moment) (name.submission - 1) live) (end_name name)
 refusal-ends live name by moment mail asking there asks taken =
@@ -313,7 +313,7 @@ refusal-ends live name by moment mail asking there asks taken =
     record {
       fresh = λ settled.
           pending mail.stages name.release name.gate all asking stage ask (taken-pends (place_of a by) a.state a.deadline moment taken)
-          (subst (λ (m : Mail). Done m.stages name.release name.gate) (mail_is settled.0 mail (sym settled.1 ∙ there)) settled.2);
+          (subst (λ (m : LiveMail). Done m.stages name.release name.gate) (mail_is settled.0 mail (sym settled.1 ∙ there)) settled.2);
       settled = (
         decided_mail name by verdicts.Reject moment mail,
         get-changed-own (decided_mail name by verdicts.Reject moment) live (name.submission - 1) mail there,
@@ -332,8 +332,8 @@ refusal-ends live name by moment mail asking there asks taken =
     }
 
 -- a refusal tells of one approval, that it ends
-pub refusal-all : (P : ItemName → Type 0) (setup : Setup) (name : ApprovalName) (by : List ℕ) (moment : ℕ) (at : Option Mail) →
-    ((mail : Mail) (asking : Asking) → at ≡ Some mail → asking_at mail name ≡ Some asking → is_taken (Some (decide_answer asking.approval by moment)) ≡ true → P (end_name name)) →
+pub refusal-all : (P : ItemName → Type 0) (setup : Setup) (name : ApprovalName) (by : List ℕ) (moment : ℕ) (at : Option LiveMail) →
+    ((mail : LiveMail) (asking : Asking) → at ≡ Some mail → asking_at mail name ≡ Some asking → is_taken (Some (decide_answer asking.approval by moment)) ≡ true → P (end_name name)) →
     All P (decided_told setup name by moment at)
 refusal-all P setup name by moment None p = tt
 refusal-all P setup name by moment (Some mail) p = with (asking_at mail name) refl

@@ -8,7 +8,7 @@ use Rattle.mail_plan.specs.Planning.{Input}
 use Rattle.hub_core.specs.declared.live.TaskName.{TaskName}
 use Rattle.hub_core.specs.Setup.{Texts}
 use Rattle.hub_core.specs.Approvals.{Stage, stage_waits}
-use Rattle.hub_core.specs.Mail.{Mail, waits_in, first_waiting, is_uncategorised, IsTask}
+use Rattle.hub_core.specs.Mail.{LiveMail, waits_in, first_waiting, is_uncategorised, IsTask}
 use Rattle.hub_core.specs.Standing.{Standing, mail_of, task_name, task_or, own_task, first_task}
 use Rattle.hub_core.proofs.Judging.{mail-at}
 
@@ -37,23 +37,23 @@ waiting_from_place : (k release : ℕ) (stages : List Stage) → position_from s
 waiting_from_place k release [] e = absurd (none≢some release e)
 waiting_from_place k release (stage ∷ stages) e = stage_found k release stage stages (stage_waits stage) refl e (waiting_from_place (k + 1) release stages)
 
-waits_there : (mail : Mail) (release : ℕ) → first_waiting mail ≡ Some release → is_uncategorised (Some mail) release ≡ true
+waits_there : (mail : LiveMail) (release : ℕ) → first_waiting mail ≡ Some release → is_uncategorised (Some mail) release ≡ true
 waits_there mail release e =
     let found = waiting_from_place 0 release mail.stages (sym (position_from-zero stage_waits mail.stages) ∙ e) in
     let at = found.at in
     ap (λ (r : ℕ). waits_in (slice_get mail.stages r)) (let same : release ≡ found.i = omega (arith, at) in same) ∙ found.waits
 
 -- a submission with such a release, so many behind the first of these
-record TaskAt (live : List Mail) (first : ℕ) (name : TaskName) : Type 0 where
+record TaskAt (live : List LiveMail) (first : ℕ) (name : TaskName) : Type 0 where
   i : ℕ
   at : name.submission ≡ first + i
   waits : is_uncategorised (slice_get live i) name.release ≡ true
 
-own_waits : (mail : Mail) (release : ℕ) (t : Bool) → cond t (first_waiting mail) None ≡ Some release → first_waiting mail ≡ Some release
+own_waits : (mail : LiveMail) (release : ℕ) (t : Bool) → cond t (first_waiting mail) None ≡ Some release → first_waiting mail ≡ Some release
 own_waits mail release true e = e
 own_waits mail release false e = absurd (none≢some release e)
 
-task_found : (residue workers number : ℕ) (mail : Mail) (live : List Mail) (name : TaskName) (own : Option ℕ) → own_task residue workers number mail ≡ own →
+task_found : (residue workers number : ℕ) (mail : LiveMail) (live : List LiveMail) (name : TaskName) (own : Option ℕ) → own_task residue workers number mail ≡ own →
     task_or number own (first_task residue workers (number + 1) live) ≡ Some name →
     (first_task residue workers (number + 1) live ≡ Some name → TaskAt live (number + 1) name) → TaskAt (mail ∷ live) number name
 task_found residue workers number mail live name None is e more =
@@ -70,7 +70,7 @@ task_found residue workers number mail live name (Some release) is e more =
       waits = ap (λ (n : TaskName). is_uncategorised (Some mail) n.release) (sym same) ∙ waits_there mail release (own_waits mail release ((number % workers) == residue) is);
     }
 
-task_at : (residue workers number : ℕ) (live : List Mail) (name : TaskName) → first_task residue workers number live ≡ Some name → TaskAt live number name
+task_at : (residue workers number : ℕ) (live : List LiveMail) (name : TaskName) → first_task residue workers number live ≡ Some name → TaskAt live number name
 task_at residue workers number [] name e = absurd (none≢some name e)
 task_at residue workers number (mail ∷ live) name e =
     task_found residue workers number mail live name (own_task residue workers number mail) refl e (task_at residue workers (number + 1) live name)
@@ -80,16 +80,16 @@ pub first-waits : (residue workers : ℕ) (s : Standing) (name : TaskName) → f
 first-waits residue workers s name e =
     let found = task_at residue workers 1 s.live name e in
     let at = found.at in
-    ap (λ (mail : Option Mail). is_uncategorised mail name.release) (mail-at s name.submission (λ (zero : name.submission ≡ 0). omega (arith, at, zero)))
+    ap (λ (mail : Option LiveMail). is_uncategorised mail name.release) (mail-at s name.submission (λ (zero : name.submission ≡ 0). omega (arith, at, zero)))
     ∙ ap (λ (place : ℕ). is_uncategorised (slice_get s.live place) name.release) (let same : name.submission - 1 ≡ found.i = omega (arith, at) in same)
     ∙ found.waits
 
 module _ {K : Type 0} (input : K → Input) (texts : K → Texts) (s : Standing) (name : TaskName) where
   -- The task is that of a release of this name.
-  abbrev pub Made : Option Mail → Option K → Type 0
-  Made at task = IfSome task (λ (t : K). IfSome at (λ (mail : Mail). IsTask name.submission mail (input t) (texts t)))
+  abbrev pub Made : Option LiveMail → Option K → Type 0
+  Made at task = IfSome task (λ (t : K). IfSome at (λ (mail : LiveMail). IsTask name.submission mail (input t) (texts t)))
 
-  named_in : (at : Option Mail) (task : Option K) → is_some task ≡ is_uncategorised at name.release → is_uncategorised at name.release ≡ true →
+  named_in : (at : Option LiveMail) (task : Option K) → is_some task ≡ is_uncategorised at name.release → is_uncategorised at name.release ≡ true →
       IfSome task (λ (t : K). (input t).release ≡ name.release) → Made at task → option_map (λ (t : K). task_name (input t)) task ≡ Some name
   named_in at None some waiting release made = absurd (false≢true (some ∙ waiting))
   named_in None (Some t) some waiting release made = absurd (false≢true waiting)

@@ -5,7 +5,7 @@ use Rattle.hub_core.specs.declared.asking.Asking.{Asking}
 use Rattle.hub_core.specs.declared.queue.QueuedItem.{QueuedItem}
 use Rattle.hub_core.specs.Setup.{Setup}
 use Rattle.hub_core.specs.Approvals.{Stage, asks_in}
-use Rattle.hub_core.specs.Mail.{Mail}
+use Rattle.hub_core.specs.Mail.{LiveMail}
 use Rattle.hub_core.specs.Ending.{approval_name, run_out_told, asks_told, stages_told, all_told}
 
 -- what was told, with one more in front of the rest
@@ -13,7 +13,7 @@ joined : (told one rest whole new all : List QueuedItem) → told ++ whole ≡ a
 joined told one rest whole new all so_far splits more =
     ap (λ (xs : List QueuedItem). xs ++ rest) more ∙ append_assoc told one rest ∙ ap (λ (xs : List QueuedItem). told ++ xs) (sym splits) ∙ so_far
 
-pub one_asked : (setup : Setup) (mail : Mail) (moment number release gate : ℕ) (asks : List Asking) (asking : Asking) (told new all : List QueuedItem) →
+pub one_asked : (setup : Setup) (mail : LiveMail) (moment number release gate : ℕ) (asks : List Asking) (asking : Asking) (told new all : List QueuedItem) →
     gate < length asks → asking ≡ get_or asks gate asking →
     told ++ asks_told setup mail moment number release gate (drop gate asks) ≡ all →
     new ≡ told ++ run_out_told setup (approval_name number release gate) mail asking moment →
@@ -25,7 +25,7 @@ one_asked setup mail moment number release gate asks asking told new all within 
     ∙ ap (λ (a : Asking). run_out_told setup (approval_name number release gate) mail a moment ++ asks_told setup mail moment number release (gate + 1) (drop (gate + 1) asks)) (sym at))
     more
 
-pub one_stage : (setup : Setup) (mail : Mail) (moment number release : ℕ) (stages : List Stage) (stage : Stage) (told new all : List QueuedItem) →
+pub one_stage : (setup : Setup) (mail : LiveMail) (moment number release : ℕ) (stages : List Stage) (stage : Stage) (told new all : List QueuedItem) →
     release < length stages → stage ≡ get_or stages release stage →
     told ++ stages_told setup mail moment number release (drop release stages) ≡ all →
     new ≡ told ++ asks_told setup mail moment number release 0 (asks_in stage) →
@@ -37,7 +37,7 @@ one_stage setup mail moment number release stages stage told new all within at s
     ∙ ap (λ (s : Stage). asks_told setup mail moment number release 0 (asks_in s) ++ stages_told setup mail moment number (release + 1) (drop (release + 1) stages)) (sym at))
     more
 
-pub one_mail : (setup : Setup) (moment place : ℕ) (lives : List Mail) (mail : Mail) (told new all : List QueuedItem) →
+pub one_mail : (setup : Setup) (moment place : ℕ) (lives : List LiveMail) (mail : LiveMail) (told new all : List QueuedItem) →
     place < length lives → mail ≡ get_or lives place mail →
     told ++ all_told setup moment (place + 1) (drop place lives) ≡ all →
     new ≡ told ++ stages_told setup mail moment (place + 1) 0 mail.stages →
@@ -46,7 +46,7 @@ one_mail setup moment place lives mail told new all within at so_far more =
     joined told (stages_told setup mail moment (place + 1) 0 mail.stages) (all_told setup moment ((place + 1) + 1) (drop (place + 1) lives))
     (all_told setup moment (place + 1) (drop place lives)) new all so_far
     (at_drop_more (all_told setup moment (place + 1)) lives place mail within
-    ∙ ap (λ (m : Mail). stages_told setup m moment (place + 1) 0 m.stages ++ all_told setup moment ((place + 1) + 1) (drop (place + 1) lives)) (sym at))
+    ∙ ap (λ (m : LiveMail). stages_told setup m moment (place + 1) 0 m.stages ++ all_told setup moment ((place + 1) + 1) (drop (place + 1) lives)) (sym at))
     more
 
 -- nothing is left

@@ -22,7 +22,7 @@ use Rattle.hub_core.specs.declared.asking.Asking.{Asking}
 use Rattle.hub_core.specs.declared.queue.QueuedItem.{QueuedItem}
 use Rattle.hub_core.specs.Setup.{Texts, Setup}
 use Rattle.hub_core.specs.Approvals.{Stage, asks_in}
-use Rattle.hub_core.specs.Mail.{Mail, asking_at, is_taken}
+use Rattle.hub_core.specs.Mail.{LiveMail, asking_at, is_taken}
 use Rattle.hub_core.specs.Ending.{is_told, approval_name, end_notice, told, end_told, run_out_told, asks_told, stages_told, all_told}
 use Rattle.mail_names.specs.Names.{mark_number, same_name}
 use Rattle.hub_core.specs.Standing.{Standing, start, state_after, mail_of, queued, queued_all, refused_told, decided_told, told_by}
@@ -132,7 +132,7 @@ record InLater (n : ℕ) (name : ItemName) : Type 0 where
 abbrev pub AreReleases : Setup → Type 0
 AreReleases setup = (texts : Texts) (input : Input) → is_release input.number input.release (setup.release_of texts input) ≡ true
 
-told-distinct : (setup : Setup) (name : ApprovalName) (mail : Mail) (asking : Asking) (moment : ℕ) (what : Notice) (sender : Option (List ℕ)) →
+told-distinct : (setup : Setup) (name : ApprovalName) (mail : LiveMail) (asking : Asking) (moment : ℕ) (what : Notice) (sender : Option (List ℕ)) →
     IsDistinct same_name (names (told setup name mail asking moment what sender))
 told-distinct setup name mail asking moment what None = none
 told-distinct setup name mail asking moment what (Some sender) = by (is_told setup mail.org sender asking.tell)
@@ -141,14 +141,14 @@ told-distinct setup name mail asking moment what (Some sender) = by (is_told set
     by true = single _
     by false = none
 
-run-out-distinct : (setup : Setup) (name : ApprovalName) (mail : Mail) (asking : Asking) (moment : ℕ) → IsDistinct same_name (names (run_out_told setup name mail asking moment))
+run-out-distinct : (setup : Setup) (name : ApprovalName) (mail : LiveMail) (asking : Asking) (moment : ℕ) → IsDistinct same_name (names (run_out_told setup name mail asking moment))
 run-out-distinct setup name mail asking moment = by (runs_out asking.approval moment)
   where
     by : (b : Bool) → IsDistinct same_name (names (cond b (end_told setup name mail asking moment (notices.RanOut name asking.label asking.approval.deadline)) []))
     by true = told-distinct setup name mail asking moment (notices.RanOut name asking.label asking.approval.deadline) mail.submission.reverse
     by false = none
 
-asks-distinct : (setup : Setup) (mail : Mail) (moment n r gate : ℕ) (asks : List Asking) → IsDistinct same_name (names (asks_told setup mail moment n r gate asks))
+asks-distinct : (setup : Setup) (mail : LiveMail) (moment n r gate : ℕ) (asks : List Asking) → IsDistinct same_name (names (asks_told setup mail moment n r gate asks))
 asks-distinct setup mail moment n r gate [] = none
 asks-distinct setup mail moment n r gate (asking ∷ asks) =
     let one = run_out_told setup (approval_name n r gate) mail asking moment in
@@ -159,7 +159,7 @@ asks-distinct setup mail moment n r gate (asking ∷ asks) =
     (run-out-all (λ (a : ItemName). a.place ≡ gate) setup (approval_name n r gate) mail asking moment (λ out. refl))
     (asks-all (λ (b : ItemName). gate + 1 ≤ b.place) setup mail moment n r (gate + 1) asks (λ k at other e there out. omega arith)))
 
-stages-distinct : (setup : Setup) (mail : Mail) (moment n r : ℕ) (stages : List Stage) → IsDistinct same_name (names (stages_told setup mail moment n r stages))
+stages-distinct : (setup : Setup) (mail : LiveMail) (moment n r : ℕ) (stages : List Stage) → IsDistinct same_name (names (stages_told setup mail moment n r stages))
 stages-distinct setup mail moment n r [] = none
 stages-distinct setup mail moment n r (stage ∷ stages) =
     let one = asks_told setup mail moment n r 0 (asks_in stage) in
@@ -170,7 +170,7 @@ stages-distinct setup mail moment n r (stage ∷ stages) =
     (asks-all (λ (a : ItemName). a.release ≡ r) setup mail moment n r 0 (asks_in stage) (λ k at other e there out. refl))
     (stages-all (λ (b : ItemName). r + 1 ≤ b.release) setup mail moment n (r + 1) stages (λ k at g e out. omega arith)))
 
-all-distinct : (setup : Setup) (moment n : ℕ) (live : List Mail) → IsDistinct same_name (names (all_told setup moment n live))
+all-distinct : (setup : Setup) (moment n : ℕ) (live : List LiveMail) → IsDistinct same_name (names (all_told setup moment n live))
 all-distinct setup moment n [] = none
 all-distinct setup moment n (mail ∷ live) =
     let one = stages_told setup mail moment n 0 mail.stages in
@@ -181,11 +181,11 @@ all-distinct setup moment n (mail ∷ live) =
     (stages-all (λ (a : ItemName). a.submission ≡ n) setup mail moment n 0 mail.stages (λ k at g e out. refl))
     (all-all (λ (b : ItemName). n + 1 ≤ b.submission) setup moment (n + 1) live (λ k at r g other e there out. omega arith)))
 
-refused-distinct : (setup : Setup) (name : ApprovalName) (by : List ℕ) (moment : ℕ) (mail : Mail) (at : Option Asking) → IsDistinct same_name (names (refused_told setup name by moment mail at))
+refused-distinct : (setup : Setup) (name : ApprovalName) (by : List ℕ) (moment : ℕ) (mail : LiveMail) (at : Option Asking) → IsDistinct same_name (names (refused_told setup name by moment mail at))
 refused-distinct setup name by moment mail None = none
 refused-distinct setup name by moment mail (Some asking) = told-distinct setup name mail asking moment (notices.Refused name asking.label by) mail.submission.reverse
 
-refusal-distinct : (setup : Setup) (name : ApprovalName) (by : List ℕ) (moment : ℕ) (at : Option Mail) → IsDistinct same_name (names (decided_told setup name by moment at))
+refusal-distinct : (setup : Setup) (name : ApprovalName) (by : List ℕ) (moment : ℕ) (at : Option LiveMail) → IsDistinct same_name (names (decided_told setup name by moment at))
 refusal-distinct setup name by moment None = none
 refusal-distinct setup name by moment (Some mail) = if-taken (is_taken (option_map (λ (asking : Asking). decide_answer asking.approval by moment) (asking_at mail name)))
   where

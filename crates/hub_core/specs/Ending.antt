@@ -16,7 +16,7 @@ use Rattle.hub_core.specs.declared.asking.Asking.{Asking}
 use Rattle.hub_core.specs.declared.queue.QueuedItem.{QueuedItem}
 use Rattle.hub_core.specs.Setup.{Texts, Setup}
 use Rattle.hub_core.specs.Approvals.{Stage, asks_in}
-use Rattle.hub_core.specs.Mail.{Mail}
+use Rattle.hub_core.specs.Mail.{LiveMail}
 
 abbrev pub is_inside : Setup → Option Texts → List ℕ → Bool
 is_inside setup None sender = false
@@ -45,39 +45,39 @@ end_notice name submission sender moment what = record {
       (about_of name.submission (base_message name.submission submission.bytes) (base_text name.submission submission.bytes)) what;
 }
 
-abbrev pub told : Setup → ApprovalName → Mail → Asking → ℕ → Notice → Option (List ℕ) → List QueuedItem
+abbrev pub told : Setup → ApprovalName → LiveMail → Asking → ℕ → Notice → Option (List ℕ) → List QueuedItem
 told setup name mail asking moment what None = []
 told setup name mail asking moment what (Some sender) =
     if is_told setup mail.org sender asking.tell then end_notice name mail.submission sender moment what ∷ [] else []
 
 -- what the end of an approval of a submission tells; the null sender is told nothing
-abbrev pub end_told : Setup → ApprovalName → Mail → Asking → ℕ → Notice → List QueuedItem
+abbrev pub end_told : Setup → ApprovalName → LiveMail → Asking → ℕ → Notice → List QueuedItem
 end_told setup name mail asking moment what = told setup name mail asking moment what mail.submission.reverse
 
 -- of one that this key refused
-abbrev pub refusal_told : Setup → ApprovalName → Mail → Asking → List ℕ → ℕ → List QueuedItem
+abbrev pub refusal_told : Setup → ApprovalName → LiveMail → Asking → List ℕ → ℕ → List QueuedItem
 refusal_told setup name mail asking by moment = end_told setup name mail asking moment (notices.Refused name asking.label by)
 
 -- of one that runs out at a moment; nothing where it doesn't
-abbrev pub run_out_told : Setup → ApprovalName → Mail → Asking → ℕ → List QueuedItem
+abbrev pub run_out_told : Setup → ApprovalName → LiveMail → Asking → ℕ → List QueuedItem
 run_out_told setup name mail asking moment =
     if runs_out asking.approval moment
     then end_told setup name mail asking moment (notices.RanOut name asking.label asking.approval.deadline) else []
 
 -- of all that a release asks for and that run out, the first of which is at this place
-abbrev pub asks_told : Setup → Mail → ℕ → ℕ → ℕ → ℕ → List Asking → List QueuedItem
+abbrev pub asks_told : Setup → LiveMail → ℕ → ℕ → ℕ → ℕ → List Asking → List QueuedItem
 asks_told setup mail moment number release gate [] = []
 asks_told setup mail moment number release gate (asking ∷ asks) =
     run_out_told setup (approval_name number release gate) mail asking moment ++ asks_told setup mail moment number release (gate + 1) asks
 
 -- and of all releases of a submission, the first of which has this number
-abbrev pub stages_told : Setup → Mail → ℕ → ℕ → ℕ → List Stage → List QueuedItem
+abbrev pub stages_told : Setup → LiveMail → ℕ → ℕ → ℕ → List Stage → List QueuedItem
 stages_told setup mail moment number release [] = []
 stages_told setup mail moment number release (stage ∷ stages) =
     asks_told setup mail moment number release 0 (asks_in stage) ++ stages_told setup mail moment number (release + 1) stages
 
 -- and of all submissions, the first of which has this number: in the order of the approvals' names
-abbrev pub all_told : Setup → ℕ → ℕ → List Mail → List QueuedItem
+abbrev pub all_told : Setup → ℕ → ℕ → List LiveMail → List QueuedItem
 all_told setup moment number [] = []
 all_told setup moment number (mail ∷ live) =
     stages_told setup mail moment number 0 mail.stages ++ all_told setup moment (number + 1) live

@@ -7,7 +7,7 @@ use Rattle.sha2.specs.Sha256.{sha256}
 use Rattle.mail_plan.specs.Submission.{Submitted, has_message_id, same_submission}
 use Rattle.mail_plan.specs.declared.submission.Origin.{Origin}
 use Rattle.mail_plan.specs.declared.submission.Origin.TheVariants as origins
-use Rattle.hub_core.specs.Mail.{Mail}
+use Rattle.hub_core.specs.Mail.{LiveMail}
 
 -- the octets of a reverse path, none for the null sender
 abbrev pub path_octets : Option (List ℕ) → List ℕ
@@ -35,7 +35,7 @@ abbrev pub is_digest : List ℕ → Option (List ℕ) → Bool
 is_digest digest None = false
 is_digest digest (Some other) = bytes_eq other digest
 
-abbrev pub has_digest : List ℕ → Mail → Bool
+abbrev pub has_digest : List ℕ → LiveMail → Bool
 has_digest digest mail = is_digest digest (digest_of mail.submission)
 
 -- the place that was found, or else the next one, if that is a hit
@@ -48,10 +48,10 @@ abbrev pub place_at : BTreeMap (List ℕ) ℕ → List ℕ → Option ℕ
 place_at index digest = get (slice_cmp nat_cmp) index digest
 
 -- The index has each digest at the first submission of that digest.
-abbrev pub IsIndex : BTreeMap (List ℕ) ℕ → List Mail → Type 0
+abbrev pub IsIndex : BTreeMap (List ℕ) ℕ → List LiveMail → Type 0
 IsIndex index live = (digest : List ℕ) → place_at index digest ≡ position (has_digest digest) live
 
 -- whether what stands there is repeated by this one
-abbrev pub repeats_at : Option Mail → Submitted → Bool
+abbrev pub repeats_at : Option LiveMail → Submitted → Bool
 repeats_at None s = false
 repeats_at (Some mail) s = same_submission mail.submission s

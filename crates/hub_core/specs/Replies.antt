@@ -15,7 +15,7 @@ use Rattle.hub_core.specs.declared.command.Reply.TheVariants as replies
 use Rattle.hub_core.specs.declared.part.Difference.{Difference}
 use Rattle.hub_core.specs.Setup.{Texts, Setup}
 use Rattle.hub_core.specs.Approvals.{Stage}
-use Rattle.hub_core.specs.Mail.{Mail, input_of}
+use Rattle.hub_core.specs.Mail.{LiveMail, input_of}
 use Rattle.hub_core.specs.Standing.{Standing, now_of, same_texts, has_epoch, live_epochs, has_room, live_bytes, place_of_same, is_named, mail_of, decision_of}
 use Rattle.hub_core.specs.Differing.{first_difference}
 
@@ -47,16 +47,16 @@ abbrev pub reply_input : Option Difference → Reply
 reply_input (Some differs) = replies.NotItsInput differs.part differs.at
 reply_input None = replies.Committed
 
-abbrev pub reply_waiting : ℕ → Mail → Input → Texts → Option Texts → Reply
+abbrev pub reply_waiting : ℕ → LiveMail → Input → Texts → Option Texts → Reply
 reply_waiting number mail input org None = replies.Unknown
 reply_waiting number mail input org (Some own) = reply_input (first_difference (input_of number mail input.release) own input org)
 
-abbrev pub reply_stage : ℕ → Mail → Input → Texts → Option Stage → Reply
+abbrev pub reply_stage : ℕ → LiveMail → Input → Texts → Option Stage → Reply
 reply_stage number mail input org None = replies.Unknown
 reply_stage number mail input org (Some (Some asks)) = replies.Already
 reply_stage number mail input org (Some None) = reply_waiting number mail input org mail.org
 
-abbrev pub reply_mail : ℕ → Option Mail → Input → Texts → Reply
+abbrev pub reply_mail : ℕ → Option LiveMail → Input → Texts → Reply
 reply_mail number None input org = replies.Unknown
 reply_mail number (Some mail) input org = reply_stage number mail input org (slice_get mail.stages input.release)
 

@@ -22,7 +22,7 @@ use Rattle.hub_core.specs.declared.asking.Asking.{Asking}
 use Rattle.hub_core.specs.declared.live.TaskName.{TaskName}
 use Rattle.hub_core.specs.Setup.{Texts, Setup, first_org}
 use Rattle.hub_core.specs.Approvals.{Stage, changed, stage_waits}
-use Rattle.hub_core.specs.Mail.{Mail, new_mail, first_waiting, is_uncategorised, categorised, asking_at, decision_in, is_taken, decided_mail, expired_mail, mail_pends}
+use Rattle.hub_core.specs.Mail.{LiveMail, new_mail, first_waiting, is_uncategorised, categorised, asking_at, decision_in, is_taken, decided_mail, expired_mail, mail_pends}
 use Rattle.hub_core.specs.Ending.{refusal_told, all_told}
 
 -- what is kept of a history: the limits that it is held to, its greatest moment, the newest organisation with its epoch, the
@@ -32,7 +32,7 @@ pub record Standing : Type 0 where
   pub moment : ℕ
   pub epoch : ℕ
   pub newest : Texts
-  pub live : List Mail
+  pub live : List LiveMail
   pub waiting : List QueuedItem
 
 abbrev pub start : Setup → Standing
@@ -56,8 +56,8 @@ without name [] = []
 without name (item ∷ items) = if is_named name item then items else item ∷ without name items
 
 -- the first submission that this one repeats
-abbrev pub place_of_same : Submitted → List Mail → Option ℕ
-place_of_same s live = position (λ (mail : Mail). same_submission mail.submission s) live
+abbrev pub place_of_same : Submitted → List LiveMail → Option ℕ
+place_of_same s live = position (λ (mail : LiveMail). same_submission mail.submission s) live
 
 -- an item of a release, with its text
 abbrev pub queued : List (List ℕ) → Item → QueuedItem
@@ -68,18 +68,18 @@ abbrev pub queued_all : Release → List QueuedItem
 queued_all release = map (queued release.texts) release.items
 
 -- the submission of this number
-abbrev pub mail_of : Standing → ℕ → Option Mail
+abbrev pub mail_of : Standing → ℕ → Option LiveMail
 mail_of s number = if nat_le 1 number then slice_get s.live (number - 1) else None
 
 -- what becomes of a decision; none where there is no such approval
 abbrev pub decision_of : Standing → ApprovalName → List ℕ → Verdict → ℕ → Option Decision
 decision_of s name by verdict moment = decision_in (mail_of s name.submission) name by verdict moment
 
-abbrev pub refused_told : Setup → ApprovalName → List ℕ → ℕ → Mail → Option Asking → List QueuedItem
+abbrev pub refused_told : Setup → ApprovalName → List ℕ → ℕ → LiveMail → Option Asking → List QueuedItem
 refused_told setup name by moment mail None = []
 refused_told setup name by moment mail (Some asking) = refusal_told setup name mail asking by moment
 
-abbrev pub decided_told : Setup → ApprovalName → List ℕ → ℕ → Option Mail → List QueuedItem
+abbrev pub decided_told : Setup → ApprovalName → List ℕ → ℕ → Option LiveMail → List QueuedItem
 decided_told setup name by moment None = []
 decided_told setup name by moment (Some mail) =
     if is_taken (decision_in (Some mail) name by verdicts.Reject moment) then refused_told setup name by moment mail (asking_at mail name) else []
@@ -121,7 +121,7 @@ abbrev pub standing : Setup → List Entry → Standing
 standing setup history = fold (state_after setup) (start setup) history
 
 -- the octets of the messages that are remembered
-abbrev pub live_bytes : List Mail → ℕ
+abbrev pub live_bytes : List LiveMail → ℕ
 live_bytes [] = 0
 live_bytes (mail ∷ live) = length mail.submission.bytes + live_bytes live
 
@@ -136,15 +136,15 @@ abbrev pub with_epoch : List ℕ → ℕ → List ℕ
 with_epoch epochs epoch = if list_any (λ e. e == epoch) epochs then epochs else epochs ++ epoch ∷ []
 
 -- with that of a submission whose organisation is kept
-abbrev pub with_mail : List ℕ → Mail → List ℕ
+abbrev pub with_mail : List ℕ → LiveMail → List ℕ
 with_mail epochs mail = if is_some mail.org then with_epoch epochs mail.epoch else epochs
 
-abbrev pub with_own : List ℕ → Option Mail → List ℕ
+abbrev pub with_own : List ℕ → Option LiveMail → List ℕ
 with_own epochs None = epochs
 with_own epochs (Some mail) = with_epoch epochs mail.epoch
 
 -- with that of the submission of an item
-abbrev pub with_item : List Mail → List ℕ → QueuedItem → List ℕ
+abbrev pub with_item : List LiveMail → List ℕ → QueuedItem → List ℕ
 with_item live epochs item = with_own epochs (slice_get live (item.name.submission - 1))
 
 -- the epochs that are live: the newest, and those of the submissions with a release that waits to be categorised, with an
@@ -195,12 +195,12 @@ abbrev pub task_or : ℕ → Option ℕ → Option TaskName → Option TaskName
 task_or number None later = later
 task_or number (Some release) later = Some (record { submission = number; release = release })
 
-abbrev pub own_task : ℕ → ℕ → ℕ → Mail → Option ℕ
+abbrev pub own_task : ℕ → ℕ → ℕ → LiveMail → Option ℕ
 own_task residue workers number mail = if (number % workers) == residue then first_waiting mail else None
 
 -- The first release that waits to be categorised, by submission and release, of the submissions whose number leaves this
 -- residue. The first of these submissions has this number.
-abbrev pub first_task : ℕ → ℕ → ℕ → List Mail → Option TaskName
+abbrev pub first_task : ℕ → ℕ → ℕ → List LiveMail → Option TaskName
 first_task residue workers number [] = None
 first_task residue workers number (mail ∷ live) =
     task_or number (own_task residue workers number mail) (first_task residue workers (number + 1) live)
@@ -212,7 +212,7 @@ waiting_from number release (stage ∷ stages) =
     if stage_waits stage then (record { submission = number; release = release }) ∷ waiting_from number (release + 1) stages
     else waiting_from number (release + 1) stages
 
-abbrev pub tasks_from : ℕ → List Mail → List TaskName
+abbrev pub tasks_from : ℕ → List LiveMail → List TaskName
 tasks_from number [] = []
 tasks_from number (mail ∷ live) = waiting_from number 0 mail.stages ++ tasks_from (number + 1) live
 

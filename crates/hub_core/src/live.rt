@@ -49,9 +49,9 @@ impl<T: Planner> Model for Live<T> {
     ghost use Rattle.std.specs.Prelude.{option_map};
     ghost use Rattle.std.specs.Arc.{arc_value};
     ghost use Rattle.hub_core.specs.Setup.{texts_of};
-    ghost use Rattle.hub_core.specs.Mail.{Mail, IsLive};
+    ghost use Rattle.hub_core.specs.Mail.{LiveMail, IsLive};
 
-    ghost Value = { Mail };
+    ghost Value = { LiveMail };
 
     ghost view = { λ l. record { submission = arc_value l.submission; accepted_at = l.accepted_at; epoch = l.epoch; org = option_map (λ org. texts_of T.directory_of T.rules_of (arc_value org)) l.org; opened = l.opened.items; stages = l.stages.items } };
 

@@ -27,10 +27,10 @@ pub struct Remembered<T: Planner> {
 
 impl<T: Planner> Model for Remembered<T> {
     ghost use Rattle.std.specs.Prelude.{List};
-    ghost use Rattle.hub_core.specs.Mail.{Mail};
+    ghost use Rattle.hub_core.specs.Mail.{LiveMail};
     ghost use Rattle.hub_core.specs.Repeats.{IsIndex};
 
-    ghost Value = { List Mail };
+    ghost Value = { List LiveMail };
 
     ghost view = { λ r. r.lives.items };
 

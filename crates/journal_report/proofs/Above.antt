@@ -8,7 +8,7 @@ use Rattle.std.proofs.lemmas.Bool.{cases_lt}
 use Rattle.std.proofs.lemmas.Bool.Decides.{nat_tests}
 use Rattle.std.proofs.lemmas.List.Folds.{list_all-append}
 use Rattle.std.proofs.lemmas.Fmt.{digits_decimal}
-use Rattle.mail_names.proofs.Digits.{own}
+use Rattle.mail_names.proofs.Offered.{own}
 use Rattle.mail_names.specs.Key.{is_key_byte, is_bad, is_empty, bad_place, key_without, IsKey}
 use Rattle.mail_names.specs.declared.key.NameFault.TheVariants as names
 use Rattle.mail_names.specs.declared.name.ItemName.{ItemName}

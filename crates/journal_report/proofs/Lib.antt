@@ -5,3 +5,4 @@ pub mod Listing
 pub mod Shape
 pub mod Told
 pub mod Visible
+pub mod Offered

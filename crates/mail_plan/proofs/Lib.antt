@@ -8,3 +8,4 @@ pub mod Printable
 mod Chains
 pub mod Once
 mod Opened
+pub mod Offered

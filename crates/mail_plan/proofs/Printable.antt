@@ -5,7 +5,7 @@ use Rattle.std.specs.Char.{is_ascii_digit}
 use Rattle.std.specs.Str.{all_ascii_digits}
 use Rattle.std.proofs.lemmas.List.Folds.{list_all-append}
 use Rattle.std.proofs.lemmas.Fmt.{digits_decimal}
-use Rattle.mail_names.proofs.Digits.{own}
+use Rattle.mail_names.proofs.Offered.{own}
 use Rattle.mail_message.specs.Lines.{is_printable}
 use Rattle.mail_plan.specs.Base.{id_text}
 

@@ -44,16 +44,16 @@ rules_fault (rule_faults.BadDate rule) = fault_line (codes "rules fault ") 6 rul
 rules_fault rule_faults.TooMany = fault_line (codes "rules fault ") 7 0
 rules_fault rule_faults.NoMemory = []
 
-abbrev pub refused : List ℕ → Verdict
-refused line = record { line = line; passes = false }
+abbrev pub refusal_of : List ℕ → Verdict
+refusal_of line = record { line = line; passes = false }
 
 abbrev pub by_rules : Result Book RuleFault → Verdict
 by_rules (Ok book) = record { line = codes "ok" ++ 10 ∷ []; passes = true }
-by_rules (Err fault) = refused (rules_fault fault)
+by_rules (Err fault) = refusal_of (rules_fault fault)
 
 -- The directory is judged first, and then the rules over it.
 abbrev pub judged : Result Register DirectoryFault → List ℕ → Verdict
-judged (Err fault) rules = refused (directory_fault fault)
+judged (Err fault) rules = refusal_of (directory_fault fault)
 judged (Ok directory) rules = by_rules (book_of rules directory)
 
 abbrev pub verdict_of : List ℕ → Verdict

@@ -7,3 +7,4 @@ pub mod Places
 pub mod Rows
 pub mod Seeking
 pub mod Soundness
+pub mod Offered

@@ -1,3 +1,4 @@
 pub mod Moments
 mod MemoryModel
 mod FolderNames
+pub mod Offered

@@ -7,7 +7,7 @@ use Rattle.std.specs.List.{AllByRecursion}
 use Rattle.mail_plan.specs.Entries.{IsEntry}
 use Rattle.mail_plan.specs.EntryText.{le64, entry_text}
 use Rattle.queue_disk.specs.Log.{records, log_text, payloads, log_of, Frames, LogOf, Shut, Opened, OneMore}
-use Rattle.mail_plan.proofs.Numbers.{length-le64}
+use Rattle.mail_plan.proofs.Offered.{length-le64}
 
 pub records-push : (ps : List (List ℕ)) (payload : List ℕ) → records (ps ++ payload ∷ []) ≡ records ps ++ 1 ∷ (le64 (length payload) ++ payload)
 records-push [] payload = ap (λ (l : List ℕ). 1 ∷ (le64 (length payload) ++ l)) (append-nil payload)

@@ -1,13 +1,13 @@
 -- What is written of an entry behind the closed gate.
 use Rattle.std.proofs.Common.{◌≡◌, ◌⊎◌, ℕ, ◌+◌, List, [], ◌∷◌, ◌++◌, length, arith, length-append}
 use Rattle.plant_dev.specs.Disk.{State, OnFile, LeavesOnly, From}
-use Rattle.plant_dev.proofs.Moments.{weakens}
+use Rattle.plant_dev.proofs.Offered.{weakens}
 use Rattle.mail_plan.specs.declared.entry.Entry.{Entry}
 use Rattle.std.specs.List.{AllByRecursion}
 use Rattle.mail_plan.specs.Entries.{IsEntry}
 use Rattle.mail_plan.specs.EntryText.{le64}
 use Rattle.queue_disk.specs.Log.{frame, Frames, log_of, Shut, Opened, OneMore}
-use Rattle.mail_plan.proofs.Numbers.{length-le64}
+use Rattle.mail_plan.proofs.Offered.{length-le64}
 use Rattle.queue_disk.proofs.Entries.{one_more}
 
 pub length-frame : (payload : List ℕ) → length (frame payload) ≡ length payload + 9

@@ -14,7 +14,7 @@ use Rattle.queue_disk.specs.Log.{FileOf}
 use Rattle.hub_core.specs.Setup.{Setup}
 use Rattle.hub_core.specs.declared.queue.QueuedItem.{QueuedItem}
 use Rattle.hub_core.specs.Items.{items, Among, IsDelivered, IsStep}
-use Rattle.hub_core.proofs.Prescribed.{older, history-push}
+use Rattle.hub_core.proofs.Offered.{older, history-push}
 use Rattle.queue_store.specs.Stands.{Stands, IsWithin, IsShelved, stored_of, item_from}
 use Rattle.queue_store.specs.Ready.{IsTrueOf}
 

@@ -4,3 +4,4 @@ pub mod Opening
 pub mod Planning
 pub mod Stepping
 pub mod Turning
+pub mod Offered

@@ -13,7 +13,7 @@ use Rattle.plant_dev.specs.declared.plant.Stored.{Stored}
 use Rattle.plant_dev.specs.declared.plant.ShelfFault.{ShelfFault}
 use Rattle.plant_dev.specs.Disk.{State, Stays, Shelves}
 use Rattle.plant_dev.specs.Shelf.{Has, PutBy}
-use Rattle.plant_dev.proofs.Moments.{stays_honest}
+use Rattle.plant_dev.proofs.Offered.{stays_honest}
 use Rattle.mail_plan.specs.EntryText.{entry_text}
 use Rattle.queue_disk.specs.declared.fault.LogFault.{LogFault}
 use Rattle.queue_disk.specs.declared.fault.LogFault.TheVariants as logs
@@ -21,15 +21,13 @@ use Rattle.queue_disk.specs.Log.{IsOpen, LogOf, log_of, FullAnswer}
 use Rattle.hub_core.specs.declared.queue.QueuedItem.{QueuedItem}
 use Rattle.hub_core.specs.Setup.{Texts, Setup}
 use Rattle.mail_plan.specs.Planning.{Input, is_release}
-use Rattle.hub_core.specs.Mail.{Mail, waits, is_uncategorised, is_taken, input_of}
+use Rattle.hub_core.specs.Mail.{LiveMail, waits, is_uncategorised, is_taken, input_of}
 use Rattle.hub_core.specs.Standing.{Standing, start, standing, state_after, now_of, has_room, place_of_same, is_named, is_lawful, is_moment, mail_of, decision_of}
 use Rattle.hub_core.specs.Items.{items, release_for, Among}
-use Rattle.hub_core.proofs.Agreeing.{mail-there, waiting_accepted}
-use Rattle.hub_core.proofs.Prescribed.{prescribed}
-use Rattle.hub_core.proofs.Sending.{found_named}
+use Rattle.hub_core.proofs.Offered.{mail-there, waiting_accepted, prescribed, found_named}
 use Rattle.queue_store.specs.Stands.{stored_of}
 use Rattle.queue_store.specs.declared.fault.HubFault.{HubFault}
-use Rattle.queue_store.specs.Faults.{fault_of, refused}
+use Rattle.queue_store.specs.Faults.{fault_of, intake_fault}
 use Rattle.port_io.specs.Causes.{Rose}
 use Rattle.queue_store.specs.declared.fault.HubFault.TheVariants as faults
 use Rattle.queue_store.specs.Ready.{Kept, IsReady, Follows, Adds, Leaves, Declined, Stops}
@@ -113,7 +111,7 @@ disk≢approval e = cc
 -- what an office answers to a submission that the hub refused
 pub submits_err : (s s' : State) (hub hub' : Kept) (submission : Submitted) (clock : ℕ) (e : HubFault) →
     ((setup : Setup) (h : List Entry) → IsReady setup s hub h → (e ≡ faults.DiskFault) ⊎ Refuses setup s' hub' h hub.state submission clock e) → (e ≡ faults.DiskFault → Rose s.disk_faults s'.disk_faults) →
-    Submits s hub submission clock (Err (refused e)) s' hub'
+    Submits s hub submission clock (Err (intake_fault e)) s' hub'
 submits_err s s' hub hub' submission clock faults.DiskFault declines cause = cause refl
 submits_err s s' hub hub' submission clock faults.NoMemory declines cause = λ setup h ready.
     elim (declines setup h ready) [ inl disk ↦ absurd (disk≢memory disk) | inr kept ↦ kept ]
@@ -135,7 +133,7 @@ submits_err s s' hub hub' submission clock faults.NoSuchApproval declines cause 
     elim (declines setup h ready) [ inl disk ↦ absurd (disk≢approval disk) | inr never ↦ absurd never ]
 
 -- and to a question after the next number
-pub counts_err : (s s' : State) (hub hub' : Kept) (e : HubFault) → (hub.broken ≡ false → ⊥) → (e ≡ faults.DiskFault → Rose s.disk_faults s'.disk_faults) → Counts s hub (Err (refused e)) s' hub'
+pub counts_err : (s s' : State) (hub hub' : Kept) (e : HubFault) → (hub.broken ≡ false → ⊥) → (e ≡ faults.DiskFault → Rose s.disk_faults s'.disk_faults) → Counts s hub (Err (intake_fault e)) s' hub'
 counts_err s s' hub hub' faults.DiskFault never cause = cause refl
 counts_err s s' hub hub' faults.NoMemory never cause = λ setup h ready. never ready.whole
 counts_err s s' hub hub' (faults.QueueFull live bytes) never cause = λ setup h ready. never ready.whole
@@ -167,9 +165,9 @@ framed-leaves T h entry place most most' (logs.LogFull n) at is disk full =
 both : (a b : Bool) → a ≡ true → b ≡ true → (a && b) ≡ true
 both a b p q = ap (λ x. x && b) p ∙ q
 
-waiting_lawful : (setup : Setup) (s : Standing) (number release : ℕ) (mail : Mail) (plan : Release) → mail_of s number ≡ Some mail → waits mail release ≡ true → is_release number release plan ≡ true →
+waiting_lawful : (setup : Setup) (s : Standing) (number release : ℕ) (mail : LiveMail) (plan : Release) → mail_of s number ≡ Some mail → waits mail release ≡ true → is_release number release plan ≡ true →
     is_lawful setup s (entries.Categorised number release plan) ≡ true
-waiting_lawful setup s number release mail plan at wait form = both _ _ (ap (λ (m : Option Mail). is_uncategorised m release) at ∙ wait) form
+waiting_lawful setup s number release mail plan at wait form = both _ _ (ap (λ (m : Option LiveMail). is_uncategorised m release) at ∙ wait) form
 
 -- a release that waits can stand behind the history, and is the one that is prescribed
 pub waiting_follows : (setup : Setup) (s : State) (hub : Kept) (h : List Entry) (input : Input) (org : Texts) (plan : Release) → IsReady setup s hub h → IsWaiting hub.state input org →

@@ -12,7 +12,7 @@ use Rattle.hub_core.specs.declared.command.Reply.TheVariants as replies
 use Rattle.mail_plan.specs.Planning.{Input}
 use Rattle.hub_core.specs.declared.live.TaskName.{TaskName}
 use Rattle.hub_core.specs.Setup.{Texts, Setup}
-use Rattle.hub_core.specs.Mail.{Mail, waits, input_of, is_taken}
+use Rattle.hub_core.specs.Mail.{LiveMail, waits, input_of, is_taken}
 use Rattle.hub_core.specs.Standing.{Standing, state_after, now_of, has_room, is_named, place_of_same, mail_of, any_pends, decision_of, tasks_of}
 use Rattle.hub_core.specs.Replies.{reply_submit}
 
@@ -36,7 +36,7 @@ abbrev pub entries_by : Setup → Input → Option Texts → List Entry
 entries_by setup input None = []
 entries_by setup input (Some org) = entries_made setup input org
 
-abbrev pub entries_mail : Setup → TaskName → Option Mail → List Entry
+abbrev pub entries_mail : Setup → TaskName → Option LiveMail → List Entry
 entries_mail setup name None = []
 entries_mail setup name (Some mail) =
     if waits mail name.release then entries_by setup (input_of name.submission mail name.release) mail.org else []

@@ -1,6 +1,6 @@
 // A hub and its plant, lent to a session.
 ghost use Rattle.std.specs.Prelude.{◌≡◌};
-ghost use Rattle.queue_store.specs.Faults.{refused};
+ghost use Rattle.queue_store.specs.Faults.{intake_fault};
 
 use crate::{Hub, HubFault};
 use mail_plan::{Accepted, Intake, IntakeFault, Planner, Submission};
@@ -15,8 +15,8 @@ pub struct LocalOffice<'a, P: Plant, T: Planner> {
     pub plant: &'a mut P,
 }
 
-fn refused(fault: HubFault) -> IntakeFault
-    ensures { result ≡ refused fault }
+fn intake_fault(fault: HubFault) -> IntakeFault
+    ensures { result ≡ intake_fault fault }
 {
     match fault {
         HubFault::DiskFault => IntakeFault::DiskFault,
@@ -43,14 +43,14 @@ impl<P: Plant, T: Planner> Intake for LocalOffice<'_, P, T> {
     fn submit(&mut self, submission: Submission, clock: u64) -> Result<Accepted, IntakeFault> {
         match self.hub.submit(self.alloc, self.plant, submission, clock) {
             Ok(accepted) => Ok(accepted),
-            Err(fault) => Err(refused(fault)),
+            Err(fault) => Err(intake_fault(fault)),
         }
     }
 
     fn next_number(&mut self) -> Result<u64, IntakeFault> {
         match self.hub.next_number(self.alloc, self.plant) {
             Ok(number) => Ok(number),
-            Err(fault) => Err(refused(fault)),
+            Err(fault) => Err(intake_fault(fault)),
         }
     }
 }

@@ -3,3 +3,4 @@ pub mod Growing
 pub mod Indexing
 pub mod Noting
 pub mod Placing
+pub mod Offered

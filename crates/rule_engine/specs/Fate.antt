@@ -17,7 +17,7 @@ use Rattle.rule_engine.specs.Gates.{is_opened}
 use Rattle.rule_engine.specs.declared.recipient.End.{End}
 use Rattle.rule_engine.specs.declared.recipient.End.TheVariants as ends
 use Rattle.rule_engine.specs.declared.recipient.Progress.{Progress}
-use Rattle.rule_engine.specs.declared.recipient.Outcome.{Outcome}
+use Rattle.rule_engine.specs.declared.recipient.RuleOutcome.{RuleOutcome}
 
 -- what an action does with a message: it is edited, copied, sent on, refused, or must be approved by one of these
 pub data Effect : Type 0 where
@@ -141,13 +141,13 @@ abbrev pub start : Mail → Progress
 start message = record { message = message; copies = [] }
 
 -- A fold over all rules has ended, so the default is never met.
-abbrev pub outcome_at : Progress → Option End → Outcome
+abbrev pub outcome_at : Progress → Option End → RuleOutcome
 outcome_at progress None = record { copies = progress.copies; end = ends.Keep (now progress) }
 outcome_at progress (Some end) = record { copies = progress.copies; end = end }
 
-abbrev pub outcome_of : Stage → Outcome
+abbrev pub outcome_of : Stage → RuleOutcome
 outcome_of last = outcome_at last.progress last.end
 
 -- Fate: the copies made for this recipient, and how its fold ended
-abbrev pub fate : List Rule → Setting → Mail → List Gate → List ℕ → Outcome
+abbrev pub fate : List Rule → Setting → Mail → List Gate → List ℕ → RuleOutcome
 fate rules setting message opened recipient = outcome_of (after_rules setting opened recipient 0 rules (start message))

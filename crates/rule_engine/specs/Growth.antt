@@ -9,7 +9,7 @@ use Rattle.rule_engine.specs.Fate.{fate}
 use Rattle.rule_engine.specs.declared.recipient.MadeCopy.{MadeCopy}
 use Rattle.rule_engine.specs.declared.recipient.End.{End}
 use Rattle.rule_engine.specs.declared.recipient.End.TheVariants as ends
-use Rattle.rule_engine.specs.declared.recipient.Outcome.{Outcome}
+use Rattle.rule_engine.specs.declared.recipient.RuleOutcome.{RuleOutcome}
 
 -- The second list begins with the first.
 pub record Continues (first second : List MadeCopy) : Type 0 where
@@ -17,19 +17,19 @@ pub record Continues (first second : List MadeCopy) : Type 0 where
   pub is : second ≡ first ++ more
 
 -- What a rule held keeps its copies, and is held as before while the rule isn't opened.
-pub record HeldGrows (opened : List Gate) (rule : ℕ) (before after : Outcome) : Type 0 where
+pub record HeldGrows (opened : List Gate) (rule : ℕ) (before after : RuleOutcome) : Type 0 where
   pub copies : Continues before.copies after.copies
   pub held : is_opened opened rule ≡ false → after ≡ before
 
 -- Only what a rule held changes.
-abbrev pub EndGrows : List Gate → End → Outcome → Outcome → Type 0
+abbrev pub EndGrows : List Gate → End → RuleOutcome → RuleOutcome → Type 0
 EndGrows opened (ends.Keep text) before after = after ≡ before
 EndGrows opened (ends.Redirect target text rule) before after = after ≡ before
 EndGrows opened (ends.Reject rule code words) before after = after ≡ before
 EndGrows opened (ends.Held rule) before after = HeldGrows opened rule before after
 
 -- an outcome, and the one with more opened gates
-abbrev pub OutcomeGrows : List Gate → Outcome → Outcome → Type 0
+abbrev pub OutcomeGrows : List Gate → RuleOutcome → RuleOutcome → Type 0
 OutcomeGrows opened before after = EndGrows opened before.end before after
 
 -- With more gates opened every fate grows.

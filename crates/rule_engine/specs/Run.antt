@@ -10,7 +10,7 @@ use Rattle.rule_engine.specs.Fate.{fate}
 use Rattle.rule_engine.specs.declared.recipient.MadeCopy.{MadeCopy}
 use Rattle.rule_engine.specs.declared.recipient.End.{End}
 use Rattle.rule_engine.specs.declared.recipient.End.TheVariants as ends
-use Rattle.rule_engine.specs.declared.recipient.Outcome.{Outcome}
+use Rattle.rule_engine.specs.declared.recipient.RuleOutcome.{RuleOutcome}
 use Rattle.rule_engine.specs.declared.leaves.Fate.{Fate}
 use Rattle.rule_engine.specs.declared.leaves.Fate.TheVariants as fates
 use Rattle.rule_engine.specs.declared.leaves.SideCopy.{SideCopy}
@@ -44,10 +44,10 @@ abbrev pub copy_text : MadeCopy → List ℕ
 copy_text copied = copied.text
 
 -- the texts that an outcome uses: those of its copies, and then that of its end
-abbrev pub used : Outcome → List (List ℕ)
+abbrev pub used : RuleOutcome → List (List ℕ)
 used outcome = map copy_text outcome.copies ++ end_texts outcome.end
 
-abbrev pub all_used : List Outcome → List (List ℕ)
+abbrev pub all_used : List RuleOutcome → List (List ℕ)
 all_used [] = []
 all_used (outcome ∷ others) = used outcome ++ all_used others
 
@@ -59,7 +59,7 @@ placed_end texts (ends.Reject rule code words) = fates.Reject rule code words
 placed_end texts (ends.Held rule) = fates.Held rule
 
 -- the ends of these outcomes
-abbrev pub all_ends : List (List ℕ) → List Outcome → List Fate
+abbrev pub all_ends : List (List ℕ) → List RuleOutcome → List Fate
 all_ends texts [] = []
 all_ends texts (outcome ∷ others) = placed_end texts outcome.end ∷ all_ends texts others
 
@@ -71,18 +71,18 @@ abbrev pub placed_copies : List (List ℕ) → ℕ → List MadeCopy → List Si
 placed_copies texts leaf copies = map (placed_copy texts leaf) copies
 
 -- the copies of these outcomes, the first of which is of this leaf
-abbrev pub all_copies : List (List ℕ) → ℕ → List Outcome → List SideCopy
+abbrev pub all_copies : List (List ℕ) → ℕ → List RuleOutcome → List SideCopy
 all_copies texts leaf [] = []
 all_copies texts leaf (outcome ∷ others) = placed_copies texts leaf outcome.copies ++ all_copies texts (leaf + 1) others
 
 -- the fates of the leaves one by one, each by its key alone
-abbrev pub outcomes : List Rule → Setting → Mail → List Gate → List Leaf → List Outcome
+abbrev pub outcomes : List Rule → Setting → Mail → List Gate → List Leaf → List RuleOutcome
 outcomes rules setting message opened [] = []
 outcomes rules setting message opened (leaf ∷ leaves) =
     fate rules setting message opened leaf.key ∷ outcomes rules setting message opened leaves
 
 -- The texts are numbered leaf by leaf, and in a leaf those of its copies before that of its end.
-abbrev pub run_of : List Outcome → Run
+abbrev pub run_of : List RuleOutcome → Run
 run_of outs = let all : List (List ℕ) = distinct (all_used outs) in record {
   texts = all;
   fates = all_ends all outs;

@@ -7,7 +7,7 @@ mod recipient;
 mod texts;
 
 pub use leaves::{Fate, Run, SideCopy, run_rules};
-pub use recipient::{End, MadeCopy, Outcome, Progress, judge};
+pub use recipient::{End, MadeCopy, Progress, RuleOutcome, judge};
 pub use texts::Texts;
 
 #[cfg(test)]

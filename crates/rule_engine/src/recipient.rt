@@ -44,7 +44,7 @@ pub struct Progress {
 
 /// What becomes of a recipient: the copies that rules made for it, and how its fold ends.
 #[derive(Drop)]
-pub struct Outcome {
+pub struct RuleOutcome {
     pub copies: Items<MadeCopy>,
     pub end: End,
 }
@@ -264,7 +264,7 @@ pub fn judge(
     opened: &[Gate],
     message: &Message,
     recipient: &Key,
-) -> Result<Outcome, NoMemory>
+) -> Result<RuleOutcome, NoMemory>
     requires few { length rules.now ≤ 100 }
     requires form { list_all is_rule rules.now ≡ true }
     ensures { IfOk result (λ outcome. outcome ≡
@@ -287,12 +287,12 @@ pub fn judge(
             &mut progress,
         )? {
             let Progress { message: _, copies } = progress;
-            return Ok(Outcome { copies, end });
+            return Ok(RuleOutcome { copies, end });
         }
     }
     let text = progress.message.bytes(alloc)?;
     let Progress { message: _, copies } = progress;
-    Ok(Outcome {
+    Ok(RuleOutcome {
         copies,
         end: End::Keep { text },
     })

@@ -3,3 +3,4 @@ pub mod TableKeys
 pub mod BookForms
 pub mod DeedForms
 pub mod BookReading
+pub mod Offered

@@ -3,7 +3,7 @@ use Rattle.std.proofs.Common.{◌≡◌, ℕ, List, [], ◌∷◌, ◌++◌, ref
 use Rattle.std.proofs.lemmas.List.{append-nil}
 use Rattle.std.specs.Io.KnownBytes.{Appends}
 use Rattle.port_io.specs.Told.{AppendsPrefix}
-use Rattle.port_io.proofs.Pieces.{Consumes-nothing, Appends-twice}
+use Rattle.port_io.proofs.Offered.{Consumes-nothing, Appends-twice}
 use Rattle.mail_names.specs.Lines.{lines_of}
 use Rattle.mail_plan.specs.declared.intake.IntakeStep.{IntakeStep}
 use Rattle.smtp_front.specs.declared.dialog.Event.{Event}
@@ -18,7 +18,7 @@ use Rattle.smtp_front.specs.Holds.{Holds}
 use Rattle.smtp_front.specs.Replies.{reply_text}
 use Rattle.smtp_front.specs.React.{react}
 use Rattle.smtp_front.specs.Turns.{Turn, Did, said, behind}
-use Rattle.smtp_front.specs.Sessions.{Stays, Closes, Begins}
+use Rattle.smtp_front.specs.Sessions.{StaysOpen, Closes, Begins}
 use Rattle.smtp_front.specs.declared.talk.Halt.{Halt}
 use Rattle.smtp_front.specs.declared.talk.Halt.TheVariants as halts
 use Rattle.smtp_front.specs.declared.talk.Drained.TheVariants as drained
@@ -27,13 +27,13 @@ use Rattle.smtp_front.proofs.Settling.{cut-twice}
 use Rattle.smtp_front.proofs.Turning.{Goes-push, GoesOn-push, Did-none, Did-push, Goes-fed}
 
 -- one more turn, which didn't end the session
-pub Stays-push : {I : Type 0} (gives : I → IntakeStep → I → Type 0) (p : Phase) (h : Held) (a b c : I) (old mid new : ℕ → Option ℕ) (taken then now : Option (List ℕ)) (p' : Phase) (s : Stays gives p h a b old mid taken then p')
+pub StaysOpen-push : {I : Type 0} (gives : I → IntakeStep → I → Type 0) (p : Phase) (h : Held) (a b c : I) (old mid new : ℕ → Option ℕ) (taken then now : Option (List ℕ)) (p' : Phase) (s : StaysOpen gives p h a b old mid taken then p')
     (event : Event) (r : Reaction) (reply : Reply) (end : Option SessionEnd) → (next_of s.after).event ≡ Some event → r ≡ react p' event →
     Asked gives b c mid new r.deed reply end → Appends then now (reply_text reply) → end ≡ None →
-    (t : Stays gives p h a c old new taken now r.phase) × (t.after ≡ behind r.deed (next_of s.after).held)
-Stays-push gives p h a b c old mid new taken then now p' s event r reply end heard e =
+    (t : StaysOpen gives p h a c old new taken now r.phase) × (t.after ≡ behind r.deed (next_of s.after).held)
+StaysOpen-push gives p h a b c old mid new taken then now p' s event r reply end heard e =
     subst (λ (r : Reaction). Asked gives b c mid new r.deed reply end → Appends then now (reply_text reply) → end ≡ None →
-    (t : Stays gives p h a c old new taken now r.phase) × (t.after ≡ behind r.deed (next_of s.after).held)) (sym e)
+    (t : StaysOpen gives p h a c old new taken now r.phase) × (t.after ≡ behind r.deed (next_of s.after).held)) (sym e)
     (λ asked sink none.
     let turn : Turn = record { event = event; moment = asked.moment; answer = asked.answer } in (
       record {
@@ -48,7 +48,7 @@ Stays-push gives p h a b c old mid new taken then now p' s event r reply end hea
     ))
 
 -- one more turn, which ended it
-pub Closes-push : {I : Type 0} (gives : I → IntakeStep → I → Type 0) (p : Phase) (h : Held) (a b c : I) (old mid new : ℕ → Option ℕ) (taken then now : Option (List ℕ)) (p' : Phase) (s : Stays gives p h a b old mid taken then p')
+pub Closes-push : {I : Type 0} (gives : I → IntakeStep → I → Type 0) (p : Phase) (h : Held) (a b c : I) (old mid new : ℕ → Option ℕ) (taken then now : Option (List ℕ)) (p' : Phase) (s : StaysOpen gives p h a b old mid taken then p')
     (event : Event) (r : Reaction) (reply : Reply) (end : Option SessionEnd) (last : SessionEnd) → (next_of s.after).event ≡ Some event → r ≡ react p' event →
     Asked gives b c mid new r.deed reply end → Appends then now (reply_text reply) → end ≡ Some last →
     Closes gives p h a c old new taken now last
@@ -70,7 +70,7 @@ Closes-push gives p h a b c old mid new taken then now p' s event r reply end la
     })
 
 -- one more turn, whose reply is due
-pub Begins-push : {I : Type 0} (gives : I → IntakeStep → I → Type 0) (p : Phase) (h : Held) (a b c : I) (old mid new : ℕ → Option ℕ) (taken now : Option (List ℕ)) (p' : Phase) (s : Stays gives p h a b old mid taken now p')
+pub Begins-push : {I : Type 0} (gives : I → IntakeStep → I → Type 0) (p : Phase) (h : Held) (a b c : I) (old mid new : ℕ → Option ℕ) (taken now : Option (List ℕ)) (p' : Phase) (s : StaysOpen gives p h a b old mid taken now p')
     (event : Event) (r : Reaction) (reply : Reply) (end : Option SessionEnd) → (next_of s.after).event ≡ Some event → r ≡ react p' event →
     Asked gives b c mid new r.deed reply end → (begun : Begins gives p h a c old new taken now) × (begun.due ≡ reply_text reply)
 Begins-push gives p h a b c old mid new taken now p' s event r reply end heard e =
@@ -124,23 +124,23 @@ Begins-sink gives p h a b old new taken then now none s = record {
 }
 
 -- a piece came behind
-Stays-fed : {I : Type 0} (gives : I → IntakeStep → I → Type 0) (p : Phase) (h : Held) (a b : I) (old new : ℕ → Option ℕ) (taken now : Option (List ℕ)) (p' : Phase) (s : Stays gives p h a b old new taken now p') (text : List ℕ) →
-    (t : Stays gives p (fed h text) a b old new taken now p') × (t.after ≡ fed s.after text)
-Stays-fed gives p h a b old new taken now p' s text = (record { turns = s.turns; after = fed s.after text; goes = Goes-fed p h s.turns p' s.after text s.goes; on = s.on; did = s.did }, refl)
+StaysOpen-fed : {I : Type 0} (gives : I → IntakeStep → I → Type 0) (p : Phase) (h : Held) (a b : I) (old new : ℕ → Option ℕ) (taken now : Option (List ℕ)) (p' : Phase) (s : StaysOpen gives p h a b old new taken now p') (text : List ℕ) →
+    (t : StaysOpen gives p (fed h text) a b old new taken now p') × (t.after ≡ fed s.after text)
+StaysOpen-fed gives p h a b old new taken now p' s text = (record { turns = s.turns; after = fed s.after text; goes = Goes-fed p h s.turns p' s.after text s.goes; on = s.on; did = s.did }, refl)
 
-pub Stays-cut : {I : Type 0} (gives : I → IntakeStep → I → Type 0) (p : Phase) (text : List ℕ) (a b : I) (old new : ℕ → Option ℕ) (taken now : Option (List ℕ)) (p' : Phase) (s : Stays gives p (fed nothing text) a b old new taken now p') (piece : List ℕ) →
-    (t : Stays gives p (fed nothing (text ++ piece)) a b old new taken now p') × (t.after ≡ fed s.after piece)
-Stays-cut gives p text a b old new taken now p' s piece =
-    subst (λ (h : Held). (t : Stays gives p h a b old new taken now p') × (t.after ≡ fed s.after piece)) (cut-twice nothing text piece)
-    (Stays-fed gives p (fed nothing text) a b old new taken now p' s piece)
+pub StaysOpen-cut : {I : Type 0} (gives : I → IntakeStep → I → Type 0) (p : Phase) (text : List ℕ) (a b : I) (old new : ℕ → Option ℕ) (taken now : Option (List ℕ)) (p' : Phase) (s : StaysOpen gives p (fed nothing text) a b old new taken now p') (piece : List ℕ) →
+    (t : StaysOpen gives p (fed nothing (text ++ piece)) a b old new taken now p') × (t.after ≡ fed s.after piece)
+StaysOpen-cut gives p text a b old new taken now p' s piece =
+    subst (λ (h : Held). (t : StaysOpen gives p h a b old new taken now p') × (t.after ≡ fed s.after piece)) (cut-twice nothing text piece)
+    (StaysOpen-fed gives p (fed nothing text) a b old new taken now p' s piece)
 
 fed-nothing : fed nothing [] ≡ nothing
 unfolding lines_of
 fed-nothing = refl
 
 -- no turn yet
-pub Stays-start : {I : Type 0} (gives : I → IntakeStep → I → Type 0) (a : I) (clock : ℕ → Option ℕ) (taken : Option (List ℕ)) → Stays gives phases.New (fed nothing []) a a clock clock taken taken phases.New
-Stays-start gives a clock taken = record { turns = []; after = fed nothing []; goes = (refl, refl); on = tt; did = Did-none gives phases.New a clock taken }
+pub StaysOpen-start : {I : Type 0} (gives : I → IntakeStep → I → Type 0) (a : I) (clock : ℕ → Option ℕ) (taken : Option (List ℕ)) → StaysOpen gives phases.New (fed nothing []) a a clock clock taken taken phases.New
+StaysOpen-start gives a clock taken = record { turns = []; after = fed nothing []; goes = (refl, refl); on = tt; did = Did-none gives phases.New a clock taken }
 
 pub SoFar-start : {I : Type 0} (gives : I → IntakeStep → I → Type 0) (a : I) (clock : ℕ → Option ℕ) (taken left : Option (List ℕ)) (d : Dialog) →
     Holds d nothing → SoFar gives a a clock clock taken taken left left d phases.New 2147483648

@@ -19,7 +19,7 @@ use Rattle.smtp_front.specs.declared.talk.Drained.TheVariants as drained
 use Rattle.smtp_front.specs.Events.{Held, nothing, fed, next_of}
 use Rattle.smtp_front.specs.Holds.{Holds}
 use Rattle.smtp_front.specs.Turns.{Steps, reply_of, asks, ticks, end_of}
-use Rattle.smtp_front.specs.Sessions.{Stays, Closes, Halts, Breaks}
+use Rattle.smtp_front.specs.Sessions.{StaysOpen, Closes, Halts, Breaks}
 
 -- A reply wasn't written: its text couldn't be made and nothing was taken, or a front of it was taken.
 abbrev pub Unsaid : Option (List ℕ) → Option (List ℕ) → List ℕ → Halt → Type 0
@@ -42,7 +42,7 @@ pub record Asked {I : Type 0} (gives : I → IntakeStep → I → Type 0) (a b :
 -- What draining does from a session's turns so far.
 abbrev pub Drains : {I : Type 0} → (I → IntakeStep → I → Type 0) → Phase → Held → I → I → (ℕ → Option ℕ) → (ℕ → Option ℕ) → Option (List ℕ) → Option (List ℕ) → Dialog → Drained → Type 0
 Drains gives phase held a b old new taken now dialog (drained.Open phase') =
-    (s : Stays gives phase held a b old new taken now phase') × ((next_of s.after).event ≡ None) × Holds dialog s.after
+    (s : StaysOpen gives phase held a b old new taken now phase') × ((next_of s.after).event ≡ None) × Holds dialog s.after
 Drains gives phase held a b old new taken now dialog (drained.Over end) = Closes gives phase held a b old new taken now end
 Drains gives phase held a b old new taken now dialog (drained.Halted halts.NoMemory) = Halts gives phase held a b old new taken now
 Drains gives phase held a b old new taken now dialog (drained.Halted halts.SinkFault) = Breaks gives phase held a b old new taken now
@@ -51,7 +51,7 @@ Drains gives phase held a b old new taken now dialog (drained.Halted halts.SinkF
 pub record SoFar {I : Type 0} (gives : I → IntakeStep → I → Type 0) (a b : I) (old new : ℕ → Option ℕ) (taken now before left : Option (List ℕ)) (dialog : Dialog) (phase : Phase) (more : ℕ) : Type 0 where
   pub text : List ℕ
   pub took : Consumes before left text
-  pub stays : Stays gives phases.New (fed nothing text) a b old new taken now phase
+  pub stays : StaysOpen gives phases.New (fed nothing text) a b old new taken now phase
   pub none : (next_of stays.after).event ≡ None
   pub holds : Holds dialog stays.after
   pub long : length text + more ≡ 2147483648

@@ -134,15 +134,15 @@ on_line phase line = on_command (verb_of (word_of line)) phase (argument_of line
 
 -- Why a content isn't asked for: 554 where it is no message. The other faults can't come in a transaction, which
 -- has 1 to 1,000 recipients once its content is read.
-abbrev pub refused : SubmissionFault → Reply
-refused faults.NoRecipients = replies.Fixed lines.BadSequence
-refused faults.TooManyRecipients = replies.Fixed lines.TooManyRecipients
-refused (faults.Unreadable fault line) = replies.Unreadable fault
-refused faults.NoMemory = replies.Fixed lines.NoMemory
+abbrev pub refusal_reply : SubmissionFault → Reply
+refusal_reply faults.NoRecipients = replies.Fixed lines.BadSequence
+refusal_reply faults.TooManyRecipients = replies.Fixed lines.TooManyRecipients
+refusal_reply (faults.Unreadable fault line) = replies.Unreadable fault
+refusal_reply faults.NoMemory = replies.Fixed lines.NoMemory
 
 abbrev pub asking : Bool → Result Submitted SubmissionFault → Reaction
 asking extended (Ok submission) = record { phase = phases.Greeted extended; deed = deeds.Ask submission }
-asking extended (Err fault) = record { phase = phases.Greeted extended; deed = deeds.Say (refused fault) }
+asking extended (Err fault) = record { phase = phases.Greeted extended; deed = deeds.Say (refusal_reply fault) }
 
 -- A content ends the transaction, and is submitted where it is a message.
 abbrev pub on_content : Phase → List ℕ → Reaction

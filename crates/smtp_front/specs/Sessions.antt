@@ -15,7 +15,7 @@ use Rattle.smtp_front.specs.React.{react}
 use Rattle.smtp_front.specs.Turns.{Turn, Goes, GoesOn, Did, Steps, replied, asks, ticks, end_of, end_at}
 
 -- These turns were done, and none of them ended the session.
-pub record Stays {I : Type 0} (gives : I → IntakeStep → I → Type 0) (phase : Phase) (held : Held) (a b : I) (old new : ℕ → Option ℕ) (taken now : Option (List ℕ)) (phase' : Phase) : Type 0 where
+pub record StaysOpen {I : Type 0} (gives : I → IntakeStep → I → Type 0) (phase : Phase) (held : Held) (a b : I) (old new : ℕ → Option ℕ) (taken now : Option (List ℕ)) (phase' : Phase) : Type 0 where
   pub turns : List Turn
   pub after : Held
   pub goes : Goes phase held turns phase' after
@@ -25,7 +25,7 @@ pub record Stays {I : Type 0} (gives : I → IntakeStep → I → Type 0) (phase
 -- All turns of what is held were done: no whole event is left.
 pub record Waits {I : Type 0} (gives : I → IntakeStep → I → Type 0) (phase : Phase) (held : Held) (a b : I) (old new : ℕ → Option ℕ) (taken now : Option (List ℕ)) : Type 0 where
   pub phase' : Phase
-  pub stays : Stays gives phase held a b old new taken now phase'
+  pub stays : StaysOpen gives phase held a b old new taken now phase'
   pub none : (next_of stays.after).event ≡ None
 
 -- These turns were done, and the last of them ended the session.
@@ -60,7 +60,7 @@ pub record Begins {I : Type 0} (gives : I → IntakeStep → I → Type 0) (phas
 -- The turns stopped short: between two, or in one that was begun.
 abbrev pub Halts : {I : Type 0} → (I → IntakeStep → I → Type 0) → Phase → Held → I → I → (ℕ → Option ℕ) → (ℕ → Option ℕ) → Option (List ℕ) → Option (List ℕ) → Type 0
 Halts gives phase held a b old new taken now =
-    ((phase' : Phase) × Stays gives phase held a b old new taken now phase') ⊎ Begins gives phase held a b old new taken now
+    ((phase' : Phase) × StaysOpen gives phase held a b old new taken now phase') ⊎ Begins gives phase held a b old new taken now
 
 -- Of the reply that was due in a turn, a front was taken.
 abbrev pub Breaks : {I : Type 0} → (I → IntakeStep → I → Type 0) → Phase → Held → I → I → (ℕ → Option ℕ) → (ℕ → Option ℕ) → Option (List ℕ) → Option (List ℕ) → Type 0

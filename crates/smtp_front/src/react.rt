@@ -1,6 +1,6 @@
 // What an event does.
 ghost use Rattle.std.specs.Prelude.{◌≡◌, IfOk};
-ghost use Rattle.smtp_front.specs.React.{on_hello, sender_of, sender_at, on_mail, recipient_of, on_rcpt, has_recipient, on_data, dropped, on_vrfy, on_command, on_line, refused, on_content, react};
+ghost use Rattle.smtp_front.specs.React.{on_hello, sender_of, sender_at, on_mail, recipient_of, on_rcpt, has_recipient, on_data, dropped, on_vrfy, on_command, on_line, refusal_reply, on_content, react};
 ghost use Rattle.smtp_front.specs.declared.reply.Line.{Line};
 
 use crate::dialog::Event;
@@ -241,8 +241,8 @@ fn on_command(
 }
 
 // The reply to a content that isn't asked for.
-fn refused(fault: SubmissionFault) -> Reply
-    ensures { result ≡ refused fault }
+fn refusal_reply(fault: SubmissionFault) -> Reply
+    ensures { result ≡ refusal_reply fault }
 {
     match fault {
         SubmissionFault::NoRecipients => Reply::Fixed {
@@ -277,7 +277,7 @@ fn on_content(alloc: Global, phase: Phase, bytes: Bytes) -> Result<Reaction, NoM
                 Err(fault) => Ok(Reaction {
                     phase,
                     deed: Deed::Say {
-                        reply: refused(fault),
+                        reply: refusal_reply(fault),
                     },
                 }),
             }

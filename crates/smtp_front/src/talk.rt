@@ -11,7 +11,7 @@ ghost use Rattle.smtp_front.specs.Holds.{Holds, unread};
 ghost use Rattle.smtp_front.specs.Replies.{line_text, reply_text};
 ghost use Rattle.smtp_front.specs.React.{react};
 ghost use Rattle.smtp_front.specs.Turns.{answer_end, behind, end_at, replied, reply_of};
-ghost use Rattle.smtp_front.specs.Sessions.{Stays, WentOn, Spoke};
+ghost use Rattle.smtp_front.specs.Sessions.{StaysOpen, WentOn, Spoke};
 ghost use Rattle.smtp_front.specs.Drains.{Unsaid, Asked, Drains, Closed};
 
 use crate::dialog::Dialog;
@@ -38,7 +38,7 @@ pub enum Halt {
 
 /// A deed's reply, and how the session ends by the deed, if it does.
 #[derive(Clone, Copy)]
-pub struct Outcome {
+pub struct DeedAnswer {
     pub reply: Reply,
     pub end: Option<SessionEnd>,
 }
@@ -110,17 +110,17 @@ fn say<K: Sink>(alloc: Global, sink: &mut K, reply: Reply) -> Result<(), Halt>
 }
 
 // Does a deed but for its reply.
-fn ask<I: Intake, C: Clock>(intake: &mut I, clock: &mut C, deed: Deed) -> Outcome
+fn ask<I: Intake, C: Clock>(intake: &mut I, clock: &mut C, deed: Deed) -> DeedAnswer
     ensures asked { Asked I.gives intake.old intake.new (C.moments clock.old) (C.moments clock.new) deed result.reply result.end }
     ensures disks { I.disk_faults intake.old ≤ I.disk_faults intake.new }
 {
     match deed {
-        Deed::Say { reply } => Outcome { reply, end: None },
-        Deed::Start => Outcome {
+        Deed::Say { reply } => DeedAnswer { reply, end: None },
+        Deed::Start => DeedAnswer {
             reply: Reply::Fixed { line: Line::Start },
             end: None,
         },
-        Deed::Quit => Outcome {
+        Deed::Quit => DeedAnswer {
             reply: Reply::Fixed {
                 line: Line::Closing,
             },
@@ -129,7 +129,7 @@ fn ask<I: Intake, C: Clock>(intake: &mut I, clock: &mut C, deed: Deed) -> Outcom
         Deed::Ask { submission } => {
             let moment = clock.now();
             let answer = intake.submit(submission, moment);
-            Outcome {
+            DeedAnswer {
                 reply: answer_reply(answer),
                 end: answer_end(answer),
             }
@@ -158,7 +158,7 @@ fn drain<I: Intake, K: Sink, C: Clock>(
     phase: Phase,
 ) -> Drained
     ensures drains { (first : Phase) (text : Held) (start : I) (began : ℕ → Option ℕ) (taken : Option (List ℕ)) →
-        (so_far : Stays I.gives first text start intake.old began (C.moments clock.old) taken (K.taken sink.old) phase) → Holds dialog.old so_far.after →
+        (so_far : StaysOpen I.gives first text start intake.old began (C.moments clock.old) taken (K.taken sink.old) phase) → Holds dialog.old so_far.after →
         Drains I.gives first text start intake.new began (C.moments clock.new) taken (K.taken sink.new) dialog.new result }
     ensures cause { result ≡ Drained.Halted Halt.SinkFault → Rose (K.faults sink.old) (K.faults sink.new) }
     ensures sinks { K.faults sink.old ≤ K.faults sink.new }

@@ -14,7 +14,7 @@ use Rattle.smtp_front.specs.declared.session_end.SessionEnd.TheVariants as ends
 use Rattle.transport_cli.specs.declared.status.Status.{Status}
 use Rattle.transport_cli.specs.declared.status.Status.TheVariants as statuses
 use Rattle.transport_cli.specs.HubSetup.{hub_setup}
-use Rattle.transport_cli.specs.Run.{entries_finish, CutShort, Starved, Overfull, Finishes, Ends, refused}
+use Rattle.transport_cli.specs.Run.{entries_finish, CutShort, Starved, Overfull, Finishes, Ends, fault_status}
 
 -- a rise within a longer time
 pub rose_within : (a b c d : ℕ) → a ≤ b → c ≤ d → Rose b c → Rose a d
@@ -70,7 +70,7 @@ short_of h then now f f' turn puts s hub e Why stops why clock missed = record {
 
 -- Categorising or the turn stopped with a fault.
 pub cut_finish : (h : List Entry) (then now : ℕ → Option ℕ) (f f' : ℕ) (turn : ℕ) (puts : List Bool) (s : State) (hub : Kept) (e : HubFault) →
-    Stops hub_setup s hub h (entries_finish (standing hub_setup h) turn puts) e → Gave then now [] ⊎ Gave then now (turn ∷ []) → RoseBy (misses puts) f f' → Finishes h then now f f' s.image (refused e)
+    Stops hub_setup s hub h (entries_finish (standing hub_setup h) turn puts) e → Gave then now [] ⊎ Gave then now (turn ∷ []) → RoseBy (misses puts) f f' → Finishes h then now f f' s.image (fault_status e)
 cut_finish h then now f f' turn puts s hub faults.DiskFault stops clock missed = absurd stops.why
 cut_finish h then now f f' turn puts s hub faults.NoMemory stops clock missed = short_of h then now f f' turn puts s hub faults.NoMemory Starved stops tt clock missed
 cut_finish h then now f f' turn puts s hub (faults.QueueFull live bytes) stops clock missed = absurd stops.why
@@ -81,7 +81,7 @@ cut_finish h then now f f' turn puts s hub (faults.LogFull octets) stops clock m
     short_of h then now f f' turn puts s hub (faults.LogFull octets) Overfull stops (octets, stops.why) clock missed
 cut_finish h then now f f' turn puts s hub (faults.NotALog at) stops clock missed = absurd stops.why
 
-pub cut_status : (h : List Entry) (then now : ℕ → Option ℕ) (f f' : ℕ) (turn : ℕ) (puts : List Bool) (s : State) (hub : Kept) (e : HubFault) (status : Status) → status ≡ refused e →
+pub cut_status : (h : List Entry) (then now : ℕ → Option ℕ) (f f' : ℕ) (turn : ℕ) (puts : List Bool) (s : State) (hub : Kept) (e : HubFault) (status : Status) → status ≡ fault_status e →
     Stops hub_setup s hub h (entries_finish (standing hub_setup h) turn puts) e → Gave then now [] ⊎ Gave then now (turn ∷ []) → RoseBy (misses puts) f f' → Finishes h then now f f' s.image status
 cut_status h then now f f' turn puts s hub e status is stops clock missed =
     subst (λ (x : Status). Finishes h then now f f' s.image x) (sym is) (cut_finish h then now f f' turn puts s hub e stops clock missed)

@@ -7,7 +7,7 @@ use Rattle.mail_plan.specs.declared.intake.IntakeFault.TheVariants as faults
 use Rattle.mail_plan.specs.declared.intake.IntakeStep.{IntakeStep}
 use Rattle.mail_plan.specs.declared.intake.IntakeStep.TheVariants as steps
 use Rattle.plant_dev.specs.Disk.{State, Stays as PlantStays}
-use Rattle.plant_dev.proofs.Moments.{stays_not, stays_more}
+use Rattle.plant_dev.proofs.Offered.{stays_not, stays_more}
 use Rattle.hub_core.specs.Standing.{Standing, standing}
 use Rattle.queue_store.specs.Ready.{Kept, IsReady, Adds}
 use Rattle.queue_store.specs.Room.{IsFull}

@@ -68,15 +68,15 @@ Finishes h then now faults faults' image status = ⊥
 
 -- The status of a call that the hub refused. Only a submission meets a full queue, and no command has an organisation or decides
 -- yet.
-abbrev pub refused : HubFault → Status
-refused faults.DiskFault = statuses.DiskFault
-refused faults.NoMemory = statuses.NoMemory
-refused (faults.QueueFull live bytes) = statuses.NoMemory
-refused (faults.Org fault) = statuses.NoMemory
-refused (faults.EpochsFull live) = statuses.NoMemory
-refused faults.NoSuchApproval = statuses.NoMemory
-refused (faults.LogFull octets) = statuses.LogFull
-refused (faults.NotALog at) = statuses.NotALog
+abbrev pub fault_status : HubFault → Status
+fault_status faults.DiskFault = statuses.DiskFault
+fault_status faults.NoMemory = statuses.NoMemory
+fault_status (faults.QueueFull live bytes) = statuses.NoMemory
+fault_status (faults.Org fault) = statuses.NoMemory
+fault_status (faults.EpochsFull live) = statuses.NoMemory
+fault_status faults.NoSuchApproval = statuses.NoMemory
+fault_status (faults.LogFull octets) = statuses.LogFull
+fault_status (faults.NotALog at) = statuses.NotALog
 
 -- the status of a session that ended otherwise
 abbrev pub status_of : SessionEnd → Status

@@ -1,6 +1,6 @@
 // How a call of the program ends.
 ghost use Rattle.std.specs.Prelude.{◌≡◌};
-ghost use Rattle.transport_cli.specs.Run.{refused, status_of, status_of_check};
+ghost use Rattle.transport_cli.specs.Run.{fault_status, status_of, status_of_check};
 
 use org_check::CheckEnd;
 use queue_store::HubFault;
@@ -52,8 +52,8 @@ impl Status {
 }
 
 /// The status of a call that the hub refused.
-pub fn refused(fault: HubFault) -> Status
-    ensures value { result ≡ refused fault }
+pub fn fault_status(fault: HubFault) -> Status
+    ensures value { result ≡ fault_status fault }
     ensures memory { fault ≡ HubFault.NoMemory → result ≡ Status.NoMemory }
     ensures disk { result ≡ Status.DiskFault → fault ≡ HubFault.DiskFault }
     ensures source { result ≡ Status.SourceFault → ⊥ }

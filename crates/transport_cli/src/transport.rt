@@ -11,7 +11,7 @@ ghost use Rattle.smtp_front.specs.Sessions.{Spoke};
 ghost use Rattle.transport_cli.specs.Answers.{HistoryGives};
 ghost use Rattle.transport_cli.specs.Run.{Checked, Ends, Finishes, Ran, is_check, is_session, usage_text};
 
-use crate::status::{Status, checked, ended, refused};
+use crate::status::{Status, checked, ended, fault_status};
 use hub_core::Limits;
 use hub_planner::HubPlanner;
 use org_check::check;
@@ -81,12 +81,12 @@ fn finish<P: Plant, C: Clock>(
 {
     match hub.categorise_all(alloc, plant) {
         Ok(()) => {}
-        Err(fault) => return refused(fault),
+        Err(fault) => return fault_status(fault),
     }
     let turn = clock.now();
     match hub.turn(alloc, plant, turn) {
         Ok(()) => Status::Done,
-        Err(fault) => refused(fault),
+        Err(fault) => fault_status(fault),
     }
 }
 
@@ -132,7 +132,7 @@ fn run_session<P: Plant, S: Source, K: Sink, C: Clock>(
     ensures usage { result ≡ Status.Usage → ⊥ }
 {
     match Hub::<HubPlanner>::open_hub(alloc, plant, Limits::usual()) {
-        Err(fault) => refused(fault),
+        Err(fault) => fault_status(fault),
         Ok(hub) => {
             let mut hub = hub;
             let end = converse(alloc, &mut hub, plant, source, sink, clock);

@@ -2,7 +2,7 @@ use Rattle.std.proofs.Common.{◌≡◌, [], subst, sym, Some, None}
 use Rattle.group_expand.specs.Places.{Holds, Faces}
 use Rattle.org_directory.specs.Register.{key_at, place_of}
 use Rattle.group_expand.proofs.Steps.{left_out, root-faced, stranger-holds}
-use Rattle.org_directory.proofs.Places.{found-below}
+use Rattle.org_directory.proofs.Offered.{found-below}
 use Rattle.group_expand.proofs.walk.root_step.Goals as goal
 
 pub returns-then-marks-place-clause-holds : goal.returns-then-marks-place-clause-holds

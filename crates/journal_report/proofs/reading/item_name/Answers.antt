@@ -1,7 +1,7 @@
 use Rattle.std.proofs.Common.{◌∙◌, Some, ap, arith}
 use Rattle.mail_names.specs.Names.{IsItemName}
 use Rattle.mail_names.specs.declared.name.ItemName.{ItemName}
-use Rattle.mail_names.proofs.Numbers.{one_item_name}
+use Rattle.mail_names.proofs.Offered.{one_item_name}
 use Rattle.journal_report.proofs.reading.item_name.Goals as goal
 
 pub returns : goal.returns

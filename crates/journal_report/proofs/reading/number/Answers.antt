@@ -4,7 +4,7 @@ use Rattle.std.specs.Option.{SomeIff}
 use Rattle.std.specs.Str.{all_ascii_digits}
 use Rattle.std.specs.Str.Parse.{digits_value}
 use Rattle.std.proofs.lemmas.Fmt.{digits_decimal, digits_value-decimal}
-use Rattle.mail_names.proofs.Digits.{own}
+use Rattle.mail_names.proofs.Offered.{own}
 use Rattle.journal_report.proofs.reading.number.Goals as goal
 
 reads : (text : List ℕ) (r : Option ℕ) → SomeIff r (digits_value 10 text < 2 ^ 64) (digits_value 10 text) → (n : ℕ) → n < 2 ^ 64 → text ≡ decimal n → r ≡ Some n

@@ -1,6 +1,6 @@
 use Rattle.std.proofs.Common.{ap, ◌∙◌, arith}
 use Rattle.std.specs.Str.Parse.{digits_value}
-use Rattle.mail_names.proofs.Digits.{digit_in_range, one_more, so_far, whole, not_some}
+use Rattle.mail_names.proofs.Offered.{digit_in_range, one_more, so_far, whole, not_some}
 use Rattle.journal_report.proofs.reading.value_of.Goals as goal
 
 pub returns-in_err-checked_mul : goal.returns-in_err-checked_mul

@@ -1,5 +1,5 @@
 use Rattle.std.proofs.Common.{◌++◌, take}
-use Rattle.port_io.proofs.Pieces.{Consumes-twice}
+use Rattle.port_io.proofs.Offered.{Consumes-twice}
 use Rattle.org_check.proofs.read.read_whole.Goals as goal
 
 pub returns-in-Err-add-clause-read : goal.returns-in-Err-add-clause-read

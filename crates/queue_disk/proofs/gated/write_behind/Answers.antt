@@ -1,7 +1,7 @@
 use Rattle.std.proofs.Common.{◌≡◌, ◌⊎◌, ◌+◌, [], ◌∷◌, List, ℕ, length, inl, ◌∙◌, subst, arith, Result, Ok, Err, OnOk}
 use Rattle.port_io.specs.declared.ports.Failed.{Failed}
 use Rattle.plant_dev.specs.Disk.{State, Image, OnFile, From, Torn, Holds, LeavesOnly, Durable}
-use Rattle.plant_dev.proofs.Moments.{joins, weakens, stays_honest}
+use Rattle.plant_dev.proofs.Offered.{joins, weakens, stays_honest}
 use Rattle.queue_disk.specs.Log.{Shut, Opened}
 use Rattle.queue_disk.proofs.Gate.{Staged, first_crash, first_done, second_crash, second_done}
 use Rattle.queue_disk.proofs.gated.write_behind.Goals as goal

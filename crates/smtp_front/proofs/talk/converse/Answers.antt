@@ -1,9 +1,9 @@
 use Rattle.std.proofs.Common.{◌++◌, length-append, take, Ok, ap, sym, subst, arith, inl}
-use Rattle.port_io.proofs.Pieces.{Consumes-twice, Consumes-end, Consumes-kept}
+use Rattle.port_io.proofs.Offered.{Consumes-twice, Consumes-end, Consumes-kept}
 use Rattle.smtp_front.specs.declared.react.Phase.TheVariants as phases
 use Rattle.smtp_front.specs.Events.{Held, nothing, fed}
 use Rattle.smtp_front.specs.Holds.{Holds}
-use Rattle.smtp_front.proofs.Draining.{SoFar-start, Stays-cut}
+use Rattle.smtp_front.proofs.Draining.{SoFar-start, StaysOpen-cut}
 use Rattle.smtp_front.proofs.Ending.{WentOn-closes, WentOn-rests, WentOn-starves, WentOn-overruns, closes-source, closes-sink}
 use Rattle.smtp_front.proofs.talk.converse.Goals as goal
 
@@ -40,7 +40,7 @@ pub returns-in-Err-feed-clause-went_on : goal.returns-in-Err-feed-clause-went_on
 returns-in-Err-feed-clause-went_on g c =
     let so = c.loop-left.invariant.goes in
     let piece = take c.in-Ok.count c.read_piece.new.wire in
-    let t = Stays-cut g.I.Intake.gives phases.New so.text c.args.intake.now c.loop-left.intake (g.C.Clock.moments c.args.clock.now) (g.C.Clock.moments c.loop-left.clock) (g.K.Sink.taken c.args.sink.now) (g.K.Sink.taken c.loop-left.sink) c.loop-left.phase so.stays piece in (
+    let t = StaysOpen-cut g.I.Intake.gives phases.New so.text c.args.intake.now c.loop-left.intake (g.C.Clock.moments c.args.clock.now) (g.C.Clock.moments c.loop-left.clock) (g.K.Sink.taken c.args.sink.now) (g.K.Sink.taken c.loop-left.sink) c.loop-left.phase so.stays piece in (
       so.text ++ piece,
       Consumes-twice _ _ _ _ _ so.took c.in-Ok.ensures.bytes,
       WentOn-starves g.I.Intake.gives c.args.intake.now c.loop-left.intake (g.C.Clock.moments c.args.clock.now) (g.C.Clock.moments c.loop-left.clock)
@@ -52,7 +52,7 @@ pub returns-in-Over-clause-went_on : goal.returns-in-Over-clause-went_on
 returns-in-Over-clause-went_on g c =
     let so = c.loop-left.invariant.goes in
     let piece = take c.in-Ok.count c.read_piece.new.wire in
-    let t = Stays-cut g.I.Intake.gives phases.New so.text c.args.intake.now c.loop-left.intake (g.C.Clock.moments c.args.clock.now) (g.C.Clock.moments c.loop-left.clock) (g.K.Sink.taken c.args.sink.now) (g.K.Sink.taken c.loop-left.sink) c.loop-left.phase so.stays piece in
+    let t = StaysOpen-cut g.I.Intake.gives phases.New so.text c.args.intake.now c.loop-left.intake (g.C.Clock.moments c.args.clock.now) (g.C.Clock.moments c.loop-left.clock) (g.K.Sink.taken c.args.sink.now) (g.K.Sink.taken c.loop-left.sink) c.loop-left.phase so.stays piece in
     let d = c.in-Over.ensures.drains phases.New (fed nothing (so.text ++ piece)) c.args.intake.now (g.C.Clock.moments c.args.clock.now) (g.K.Sink.taken c.args.sink.now) t.0
     (subst (λ (h : Held). Holds c.feed.new.self h) (sym t.1) (c.in-Ok-feed.ensures.ok so.stays.after so.holds)) in (
       so.text ++ piece,
@@ -65,7 +65,7 @@ pub returns-in-Over-clause-source_fault : goal.returns-in-Over-clause-source_fau
 returns-in-Over-clause-source_fault g c = λ e.
     let so = c.loop-left.invariant.goes in
     let piece = take c.in-Ok.count c.read_piece.new.wire in
-    let t = Stays-cut g.I.Intake.gives phases.New so.text c.args.intake.now c.loop-left.intake (g.C.Clock.moments c.args.clock.now) (g.C.Clock.moments c.loop-left.clock) (g.K.Sink.taken c.args.sink.now) (g.K.Sink.taken c.loop-left.sink) c.loop-left.phase so.stays piece in
+    let t = StaysOpen-cut g.I.Intake.gives phases.New so.text c.args.intake.now c.loop-left.intake (g.C.Clock.moments c.args.clock.now) (g.C.Clock.moments c.loop-left.clock) (g.K.Sink.taken c.args.sink.now) (g.K.Sink.taken c.loop-left.sink) c.loop-left.phase so.stays piece in
     let d = c.in-Over.ensures.drains phases.New (fed nothing (so.text ++ piece)) c.args.intake.now (g.C.Clock.moments c.args.clock.now) (g.K.Sink.taken c.args.sink.now) t.0
     (subst (λ (h : Held). Holds c.feed.new.self h) (sym t.1) (c.in-Ok-feed.ensures.ok so.stays.after so.holds)) in
     closes-source _ _ _ _ _ _ _ _ _ _ d e
@@ -74,7 +74,7 @@ pub returns-in-Over-clause-sink_fault : goal.returns-in-Over-clause-sink_fault
 returns-in-Over-clause-sink_fault g c = λ e.
     let so = c.loop-left.invariant.goes in
     let piece = take c.in-Ok.count c.read_piece.new.wire in
-    let t = Stays-cut g.I.Intake.gives phases.New so.text c.args.intake.now c.loop-left.intake (g.C.Clock.moments c.args.clock.now) (g.C.Clock.moments c.loop-left.clock) (g.K.Sink.taken c.args.sink.now) (g.K.Sink.taken c.loop-left.sink) c.loop-left.phase so.stays piece in
+    let t = StaysOpen-cut g.I.Intake.gives phases.New so.text c.args.intake.now c.loop-left.intake (g.C.Clock.moments c.args.clock.now) (g.C.Clock.moments c.loop-left.clock) (g.K.Sink.taken c.args.sink.now) (g.K.Sink.taken c.loop-left.sink) c.loop-left.phase so.stays piece in
     let d = c.in-Over.ensures.drains phases.New (fed nothing (so.text ++ piece)) c.args.intake.now (g.C.Clock.moments c.args.clock.now) (g.K.Sink.taken c.args.sink.now) t.0
     (subst (λ (h : Held). Holds c.feed.new.self h) (sym t.1) (c.in-Ok-feed.ensures.ok so.stays.after so.holds)) in
     closes-sink _ _ _ _ _ _ _ _ _ _ d e
@@ -83,7 +83,7 @@ pub returns-in-Halted-NoMemory-clause-went_on : goal.returns-in-Halted-NoMemory-
 returns-in-Halted-NoMemory-clause-went_on g c =
     let so = c.loop-left.invariant.goes in
     let piece = take c.in-Ok.count c.read_piece.new.wire in
-    let t = Stays-cut g.I.Intake.gives phases.New so.text c.args.intake.now c.loop-left.intake (g.C.Clock.moments c.args.clock.now) (g.C.Clock.moments c.loop-left.clock) (g.K.Sink.taken c.args.sink.now) (g.K.Sink.taken c.loop-left.sink) c.loop-left.phase so.stays piece in
+    let t = StaysOpen-cut g.I.Intake.gives phases.New so.text c.args.intake.now c.loop-left.intake (g.C.Clock.moments c.args.clock.now) (g.C.Clock.moments c.loop-left.clock) (g.K.Sink.taken c.args.sink.now) (g.K.Sink.taken c.loop-left.sink) c.loop-left.phase so.stays piece in
     let d = rw c.in-Halted-NoMemory.halt-is at (c.in-Halted-NoMemory.ensures.drains phases.New (fed nothing (so.text ++ piece)) c.args.intake.now (g.C.Clock.moments c.args.clock.now) (g.K.Sink.taken c.args.sink.now) t.0
     (subst (λ (h : Held). Holds c.feed.new.self h) (sym t.1) (c.in-Ok-feed.ensures.ok so.stays.after so.holds))) in (
       so.text ++ piece,
@@ -97,7 +97,7 @@ pub returns-in-Halted-SinkFault-clause-went_on : goal.returns-in-Halted-SinkFaul
 returns-in-Halted-SinkFault-clause-went_on g c =
     let so = c.loop-left.invariant.goes in
     let piece = take c.in-Ok.count c.read_piece.new.wire in
-    let t = Stays-cut g.I.Intake.gives phases.New so.text c.args.intake.now c.loop-left.intake (g.C.Clock.moments c.args.clock.now) (g.C.Clock.moments c.loop-left.clock) (g.K.Sink.taken c.args.sink.now) (g.K.Sink.taken c.loop-left.sink) c.loop-left.phase so.stays piece in
+    let t = StaysOpen-cut g.I.Intake.gives phases.New so.text c.args.intake.now c.loop-left.intake (g.C.Clock.moments c.args.clock.now) (g.C.Clock.moments c.loop-left.clock) (g.K.Sink.taken c.args.sink.now) (g.K.Sink.taken c.loop-left.sink) c.loop-left.phase so.stays piece in
     let d = rw c.in-Halted-SinkFault.halt-is at (c.in-Halted-SinkFault.ensures.drains phases.New (fed nothing (so.text ++ piece)) c.args.intake.now (g.C.Clock.moments c.args.clock.now) (g.K.Sink.taken c.args.sink.now) t.0
     (subst (λ (h : Held). Holds c.feed.new.self h) (sym t.1) (c.in-Ok-feed.ensures.ok so.stays.after so.holds))) in
     (so.text ++ piece, Consumes-twice _ _ _ _ _ so.took c.in-Ok.ensures.bytes, inl d)
@@ -106,7 +106,7 @@ pub loop-left-preserved : goal.loop-left-preserved
 loop-left-preserved g c =
     let so = c.loop-left.invariant.goes in
     let piece = take c.in-Ok.count c.read_piece.new.wire in
-    let t = Stays-cut g.I.Intake.gives phases.New so.text c.args.intake.now c.loop-left.intake (g.C.Clock.moments c.args.clock.now) (g.C.Clock.moments c.loop-left.clock) (g.K.Sink.taken c.args.sink.now) (g.K.Sink.taken c.loop-left.sink) c.loop-left.phase so.stays piece in
+    let t = StaysOpen-cut g.I.Intake.gives phases.New so.text c.args.intake.now c.loop-left.intake (g.C.Clock.moments c.args.clock.now) (g.C.Clock.moments c.loop-left.clock) (g.K.Sink.taken c.args.sink.now) (g.K.Sink.taken c.loop-left.sink) c.loop-left.phase so.stays piece in
     let d = c.in-Open.ensures.drains phases.New (fed nothing (so.text ++ piece)) c.args.intake.now (g.C.Clock.moments c.args.clock.now) (g.K.Sink.taken c.args.sink.now) t.0
     (subst (λ (h : Held). Holds c.feed.new.self h) (sym t.1) (c.in-Ok-feed.ensures.ok so.stays.after so.holds)) in
     record {

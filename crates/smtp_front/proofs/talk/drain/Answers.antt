@@ -1,7 +1,7 @@
 use Rattle.std.proofs.Common.{sym, subst, inl, arith}
 use Rattle.smtp_front.specs.Events.{Held, next_of}
 use Rattle.smtp_front.specs.Holds.{Holds}
-use Rattle.smtp_front.proofs.Draining.{Stays-push, Closes-push, Begins-push, halted}
+use Rattle.smtp_front.proofs.Draining.{StaysOpen-push, Closes-push, Begins-push, halted}
 use Rattle.smtp_front.proofs.Holding.{next-none}
 use Rattle.smtp_front.proofs.talk.drain.Goals as goal
 
@@ -46,7 +46,7 @@ loop-event-preserved g c = record {
   goes = λ first text start began taken so_far holds.
       let s = c.loop-event.invariant.goes first text start began taken so_far holds in
       let n = rw c.in-Ok-Some.field-0-is at (c.in-Ok-Some.ensures.ok s.0.after s.1) in
-      let t = Stays-push g.I.Intake.gives first text start c.loop-event.intake c.ask-outcome.new.intake
+      let t = StaysOpen-push g.I.Intake.gives first text start c.loop-event.intake c.ask-outcome.new.intake
       began (g.C.Clock.moments c.loop-event.clock) (g.C.Clock.moments c.ask-outcome.new.clock)
       taken (g.K.Sink.taken c.loop-event.sink) (g.K.Sink.taken c.say.new.sink)
       c.loop-event.phase s.0 c.in-Ok-Some.event c.in-Ok.reaction c.ask-outcome.result.reply c.ask-outcome.result.end (sym n.0) c.in-Ok.ensures c.ask-outcome.ensures.asked

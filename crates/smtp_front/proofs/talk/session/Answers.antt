@@ -1,8 +1,8 @@
 use Rattle.std.proofs.Common.{[], subst, inl, List, ℕ}
 use Rattle.std.specs.Io.KnownBytes.{Appends}
-use Rattle.port_io.proofs.Pieces.{Consumes-nothing}
+use Rattle.port_io.proofs.Offered.{Consumes-nothing}
 use Rattle.smtp_front.specs.declared.react.Phase.TheVariants as phases
-use Rattle.smtp_front.proofs.Draining.{Stays-start}
+use Rattle.smtp_front.proofs.Draining.{StaysOpen-start}
 use Rattle.smtp_front.proofs.Ending.{WentOn-starves, Spoke-greets}
 use Rattle.smtp_front.proofs.talk.session.Goals as goal
 
@@ -17,5 +17,5 @@ returns-in-Err-new-clause-spoke g c =
       greeted = greeted;
       greeting = subst (λ (t : List ℕ). Appends (g.K.Sink.taken c.args.sink.now) greeted t) c.text.ensures c.in-Ok.ensures.ok;
       went_on = WentOn-starves g.I.Intake.gives c.args.intake.now c.args.intake.now clock clock greeted greeted (g.K.Sink.taken c.close.new.sink) [] (g.S.Source.left c.args.source.now) c.close.result
-          (inl (phases.New, Stays-start g.I.Intake.gives c.args.intake.now clock greeted)) c.close.ensures.closed;
+          (inl (phases.New, StaysOpen-start g.I.Intake.gives c.args.intake.now clock greeted)) c.close.ensures.closed;
     })

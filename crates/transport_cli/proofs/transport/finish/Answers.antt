@@ -2,8 +2,7 @@ use Rattle.std.proofs.Common.{◌≡◌, ◌+◌, ◌++◌, [], List, inl, inr, 
 use Rattle.mail_plan.specs.declared.entry.Entry.{Entry}
 use Rattle.hub_core.specs.Standing.{Standing, standing, usual}
 use Rattle.queue_store.specs.Calls.{after_entries, entries_categorise, entries_turn}
-use Rattle.queue_store.proofs.Stepping.{adds-along, stops-along}
-use Rattle.queue_store.proofs.Turning.{state-goes, adds-joined, stops-joined, stops-more}
+use Rattle.queue_store.proofs.Offered.{adds-along, stops-along, state-goes, adds-joined, stops-joined, stops-more}
 use Rattle.transport_cli.specs.HubSetup.{hub_setup}
 use Rattle.transport_cli.specs.Run.{entries_finish}
 use Rattle.transport_cli.proofs.Running.{rose_within, cut_status}
@@ -16,7 +15,7 @@ returns-in-Err-clause-finishes g c h ready quiet =
     let rise = c.categorise_all.ensures.stays.shelf_faults in
     elim (c.in-Err.ensures.stops usual h ready) [
       | inl disk ↦ absurd (quiet (c.in-Err.ensures.cause (ap Err disk)))
-      | inr stops ↦ cut_status h _ _ _ _ 0 [] _ _ c.in-Err.fault _ c.refused.ensures.value
+      | inr stops ↦ cut_status h _ _ _ _ 0 [] _ _ c.in-Err.fault _ c.fault_status.ensures.value
           (stops-along hub_setup _ _ h _ _ _ (ap (λ (st : Standing). entries_finish st 0 []) ready.state) (stops-more hub_setup _ _ h es (entries_turn hub_setup (after_entries hub_setup s es) 0 []) _ stops))
           (inl (λ k. refl)) (omega (arith, rise))
     ]
@@ -37,7 +36,7 @@ returns-in-Err-turn-clause-finishes g c h ready quiet =
           let whole : es ++ (entries_turn hub_setup c.categorise_all.new.self.state turn stops.0 ++ []) ≡ entries_finish (standing hub_setup h) turn stops.0 =
           ap (λ (xs : List Entry). es ++ xs) (append-nil _) ∙ ap (λ (st : Standing). es ++ entries_turn hub_setup st turn stops.0) goes ∙ ap (λ (st : Standing). entries_finish st turn stops.0) ready.state in
           let missed = stops.2 in
-          cut_status h _ _ _ _ turn stops.0 _ _ c.in-Err-turn.fault _ c.refused-in-Err-turn.ensures.value
+          cut_status h _ _ _ _ turn stops.0 _ _ c.in-Err-turn.fault _ c.fault_status-in-Err-turn.ensures.value
           (stops-along hub_setup _ _ h _ _ _ whole (stops-joined hub_setup _ _ _ _ h es _ [] _ one stops.1))
           (inr (c.now-turn.ensures.moment, c.now-turn.ensures.later)) (omega (arith, rise, missed))
     ]

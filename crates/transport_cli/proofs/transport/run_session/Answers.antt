@@ -15,7 +15,7 @@ pub returns-in-Err-clause-ran : goal.returns-in-Err-clause-ran
 returns-in-Err-clause-ran g c h honest stands quiet =
     elim (c.in-Err.ensures.never h honest (subst (λ (l : Limits). IsHistory (setup_of organisation_of hub_release hub_inside takes l) h) (sym c.usual.ensures) stands.history) stands.file) [
       | inl disk ↦ absurd (quiet (c.in-Err.ensures.cause (ap Err disk)))
-      | inr memory ↦ inl (c.refused.ensures.memory memory)
+      | inr memory ↦ inl (c.fault_status.ensures.memory memory)
     ]
 
 pub returns-in-Ok-clause-ran : goal.returns-in-Ok-clause-ran
@@ -45,7 +45,7 @@ pub returns-in-Err-clause-log : goal.returns-in-Err-clause-log
 returns-in-Err-clause-log g c h honest stands quiet is =
     elim (c.in-Err.ensures.never h honest (subst (λ (l : Limits). IsHistory (setup_of organisation_of hub_release hub_inside takes l) h) (sym c.usual.ensures) stands.history) stands.file) [
       | inl disk ↦ quiet (c.in-Err.ensures.cause (ap Err disk))
-      | inr memory ↦ memory≢log (sym (c.refused.ensures.memory memory) ∙ is)
+      | inr memory ↦ memory≢log (sym (c.fault_status.ensures.memory memory) ∙ is)
     ]
 
 pub returns-in-Ok-clause-log : goal.returns-in-Ok-clause-log

@@ -5,7 +5,7 @@ use Rattle.std.proofs.lemmas.List.{length-set}
 use Rattle.moderation.specs.declared.approval.Verdict.TheVariants as verdicts
 use Rattle.hub_core.specs.Setup.{texts_of}
 use Rattle.hub_core.specs.Approvals.{Stage, changed, decided_stage, stage_open}
-use Rattle.hub_core.specs.Mail.{Mail, decision_in, is_taken, freed, decided_mail}
+use Rattle.hub_core.specs.Mail.{LiveMail, decision_in, is_taken, freed, decided_mail}
 use Rattle.std.specs.List.{list_any}
 use Rattle.hub_core.proofs.Changing.{changed-set}
 use Rattle.hub_core.proofs.Keeping.{free-live, free-is, takes, asked-within, any-decided, refused-is}
@@ -16,9 +16,9 @@ invariant_of-self g c =
     let it = c.self.inside in
     let name = c.args.name.now in
     let texts = texts_of g.T.Planner.directory_of g.T.Planner.rules_of in
-    let old : Mail = record { submission = arc_value it.submission; accepted_at = it.accepted_at; epoch = it.epoch; org = option_map (λ o. texts (arc_value o)) it.org; opened = it.opened.items; stages = it.stages.items } in
+    let old : LiveMail = record { submission = arc_value it.submission; accepted_at = it.accepted_at; epoch = it.epoch; org = option_map (λ o. texts (arc_value o)) it.org; opened = it.opened.items; stages = it.stages.items } in
     let taken : is_taken (decision_in (Some old) name c.args.by.now verdicts.Reject c.args.moment) ≡ true =
-    subst (λ (m : Mail). is_taken (decision_in (Some m) name c.args.by.now verdicts.Reject c.args.moment) ≡ true) (sym c.self.view_is) c.requires in
+    subst (λ (m : LiveMail). is_taken (decision_in (Some m) name c.args.by.now verdicts.Reject c.args.moment) ≡ true) (sym c.self.view_is) c.requires in
     let is = takes old name c.args.by.now verdicts.Reject c.args.moment taken in
     let f = decided_stage name.gate c.args.by.now verdicts.Reject c.args.moment in
     let stages = slice_set it.stages.items name.release c.decide.new.self in
@@ -32,9 +32,9 @@ returns g c =
     let it = c.self.inside in
     let name = c.args.name.now in
     let texts = texts_of g.T.Planner.directory_of g.T.Planner.rules_of in
-    let old : Mail = record { submission = arc_value it.submission; accepted_at = it.accepted_at; epoch = it.epoch; org = option_map (λ o. texts (arc_value o)) it.org; opened = it.opened.items; stages = it.stages.items } in
+    let old : LiveMail = record { submission = arc_value it.submission; accepted_at = it.accepted_at; epoch = it.epoch; org = option_map (λ o. texts (arc_value o)) it.org; opened = it.opened.items; stages = it.stages.items } in
     let taken : is_taken (decision_in (Some old) name c.args.by.now verdicts.Reject c.args.moment) ≡ true =
-    subst (λ (m : Mail). is_taken (decision_in (Some m) name c.args.by.now verdicts.Reject c.args.moment) ≡ true) (sym c.self.view_is) c.requires in
+    subst (λ (m : LiveMail). is_taken (decision_in (Some m) name c.args.by.now verdicts.Reject c.args.moment) ≡ true) (sym c.self.view_is) c.requires in
     let is = takes old name c.args.by.now verdicts.Reject c.args.moment taken in
     let f = decided_stage name.gate c.args.by.now verdicts.Reject c.args.moment in
     let stages = slice_set it.stages.items name.release c.decide.new.self in

@@ -1,12 +1,12 @@
 use Rattle.std.proofs.Common.{ℕ, List, Option, ◌∙◌, ap, sym, subst}
-use Rattle.hub_core.specs.Mail.{Mail}
+use Rattle.hub_core.specs.Mail.{LiveMail}
 use Rattle.hub_core.specs.Repeats.{IsIndex, digest_of, is_digest, found_or, place_at}
 use Rattle.hub_core.proofs.Repeating.{index-pushed}
 use Rattle.hub_core.proofs.remembered.Remembered.push.Goals as goal
 
 pub invariant_of-self-in_default : goal.invariant_of-self-in_default
 invariant_of-self-in_default g c =
-    subst (λ (lives : List Mail). IsIndex c.note.new.index lives) (sym c.in_ok-push.ensures.items)
+    subst (λ (lives : List LiveMail). IsIndex c.note.new.index lives) (sym c.in_ok-push.ensures.items)
     (index-pushed c.self.inside.index c.note.new.index c.self.inside.lives.items c.args.live c.self.invariant
     (λ digest.
     c.in_default.ensures.ok digest

@@ -1,9 +1,9 @@
 use Rattle.std.proofs.Common.{◌∙◌, sym, ap, subst, inr, arith}
-use Rattle.plant_dev.proofs.Moments.{stays_honest}
+use Rattle.plant_dev.proofs.Offered.{stays_honest}
 use Rattle.queue_disk.specs.Log.{IsOpen}
 use Rattle.hub_core.specs.Setup.{setup_of}
 use Rattle.hub_core.specs.Standing.{Standing, state_after}
-use Rattle.hub_core.proofs.Prescribed.{standing-push}
+use Rattle.hub_core.proofs.Offered.{standing-push}
 use Rattle.queue_disk.specs.declared.log.Framed.{Framed}
 use Rattle.queue_store.specs.Ready.{Kept}
 use Rattle.queue_store.specs.Faults.{fault_of}

@@ -5,7 +5,7 @@ use Rattle.std.proofs.lemmas.Result.{on_ok_weaker}
 use Rattle.mail_plan.specs.declared.entry.Entry.TheVariants as entries
 use Rattle.mail_plan.specs.declared.release.Release.{Release}
 use Rattle.hub_core.specs.Setup.{setup_of, texts_of}
-use Rattle.hub_core.specs.Mail.{Mail, IsTask, is_uncategorised}
+use Rattle.hub_core.specs.Mail.{LiveMail, IsTask, is_uncategorised}
 use Rattle.hub_core.specs.Standing.{mail_of}
 use Rattle.queue_store.specs.Ready.{Kept}
 use Rattle.queue_store.specs.Calls.{entries_made, entries_at}
@@ -23,8 +23,8 @@ returns-in-Ok-clause-adds g c limits h ready =
     let org = texts_of g.T.Planner.directory_of g.T.Planner.rules_of (arc_value task.org) in
     let wait =
     sym (ap (λ o. is_some o) c.in-Ok-Some.field-0-is) ∙ c.in-Ok-Some.ensures.waits ∙ ap (λ (k : Kept). is_uncategorised (mail_of k.state name.submission) name.release) c.self.view_is in
-    let made = subst (λ (k : Kept). IfSome (mail_of k.state name.submission) (λ (mail : Mail). IsTask name.submission mail input org)) c.self.view_is
-    (held_of c.in-Ok-Some.field-0 task (λ t. IfSome (mail_of c.self.inside.state name.submission) (λ (mail : Mail). IsTask name.submission mail t.input (texts_of g.T.Planner.directory_of g.T.Planner.rules_of (arc_value t.org))))
+    let made = subst (λ (k : Kept). IfSome (mail_of k.state name.submission) (λ (mail : LiveMail). IsTask name.submission mail input org)) c.self.view_is
+    (held_of c.in-Ok-Some.field-0 task (λ t. IfSome (mail_of c.self.inside.state name.submission) (λ (mail : LiveMail). IsTask name.submission mail t.input (texts_of g.T.Planner.directory_of g.T.Planner.rules_of (arc_value t.org))))
     c.in-Ok-Some.field-0-is c.in-Ok-Some.ensures.made) in
     let release = held_of c.in-Ok-Some.field-0 task (λ t. t.input.release ≡ name.release) c.in-Ok-Some.field-0-is c.in-Ok-Some.ensures.release in
     let own : entries.Categorised c.in-Ok.outcome.1.number c.in-Ok.outcome.1.release c.in-Ok.outcome.2 ∷ [] ≡ entries_made setup input org =
@@ -43,8 +43,8 @@ returns-in-Ok-clause-declines g c limits h ready =
     let org = texts_of g.T.Planner.directory_of g.T.Planner.rules_of (arc_value task.org) in
     let wait =
     sym (ap (λ o. is_some o) c.in-Ok-Some.field-0-is) ∙ c.in-Ok-Some.ensures.waits ∙ ap (λ (k : Kept). is_uncategorised (mail_of k.state name.submission) name.release) c.self.view_is in
-    let made = subst (λ (k : Kept). IfSome (mail_of k.state name.submission) (λ (mail : Mail). IsTask name.submission mail input org)) c.self.view_is
-    (held_of c.in-Ok-Some.field-0 task (λ t. IfSome (mail_of c.self.inside.state name.submission) (λ (mail : Mail). IsTask name.submission mail t.input (texts_of g.T.Planner.directory_of g.T.Planner.rules_of (arc_value t.org))))
+    let made = subst (λ (k : Kept). IfSome (mail_of k.state name.submission) (λ (mail : LiveMail). IsTask name.submission mail input org)) c.self.view_is
+    (held_of c.in-Ok-Some.field-0 task (λ t. IfSome (mail_of c.self.inside.state name.submission) (λ (mail : LiveMail). IsTask name.submission mail t.input (texts_of g.T.Planner.directory_of g.T.Planner.rules_of (arc_value t.org))))
     c.in-Ok-Some.field-0-is c.in-Ok-Some.ensures.made) in
     let release = held_of c.in-Ok-Some.field-0 task (λ t. t.input.release ≡ name.release) c.in-Ok-Some.field-0-is c.in-Ok-Some.ensures.release in
     let own : entries.Categorised c.in-Ok.outcome.1.number c.in-Ok.outcome.1.release c.in-Ok.outcome.2 ∷ [] ≡ entries_made setup input org =

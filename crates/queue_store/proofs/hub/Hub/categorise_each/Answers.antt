@@ -1,6 +1,6 @@
 use Rattle.std.proofs.Common.{◌≡◌, inl, inr, ◌+◌, ◌++◌, [], get_or, drop, refl, ap, ◌∙◌, sym, append-nil}
 use Rattle.std.proofs.lemmas.List.{drop_all}
-use Rattle.plant_dev.proofs.Moments.{stays_not, stays_more}
+use Rattle.plant_dev.proofs.Offered.{stays_not, stays_more}
 use Rattle.hub_core.specs.declared.live.TaskName.{TaskName}
 use Rattle.hub_core.specs.Setup.{setup_of}
 use Rattle.queue_store.specs.Calls.{after_entries, entries_at, entries_all}

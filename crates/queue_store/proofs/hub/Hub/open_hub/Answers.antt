@@ -1,6 +1,6 @@
 use Rattle.std.proofs.Common.{[], refl, sym, ◌∙◌, ap, subst, inr}
 use Rattle.plant_dev.specs.Disk.{Image}
-use Rattle.plant_dev.proofs.Moments.{stays_honest, durable_reads}
+use Rattle.plant_dev.proofs.Offered.{stays_honest, durable_reads}
 use Rattle.hub_core.specs.Setup.{setup_of}
 use Rattle.queue_disk.specs.View.{LogView}
 use Rattle.queue_disk.specs.Log.{LogOf}

@@ -2,7 +2,7 @@ use Rattle.std.proofs.Common.{inl, inr, true, ◌++◌, [], ◌∷◌, get_or, r
 use Rattle.std.proofs.lemmas.List.{drop_all}
 use Rattle.mail_names.specs.declared.name.ItemName.{ItemName}
 use Rattle.mail_names.specs.declared.name.Mark.TheVariants as marks
-use Rattle.plant_dev.proofs.Moments.{stays_not, stays_more}
+use Rattle.plant_dev.proofs.Offered.{stays_not, stays_more}
 use Rattle.queue_store.specs.Calls.{entries_try}
 use Rattle.queue_store.proofs.Stepping.{adds-none, adds-along, stops-along, stops-first}
 use Rattle.queue_store.proofs.Turning.{state-goes, adds-joined, stops-joined, Tried-none, Tried-more, Tried-all, Tried-stopped, misses-more}

@@ -1,6 +1,6 @@
 use Rattle.std.proofs.Common.{rules, ◌≡◌, [], ◌∷◌, ◌++◌, ◌+◌, length, drop, Option, Some, Ok, Err, sym, ◌∙◌, ap, subst}
 use Rattle.plant_dev.specs.Disk.{Image}
-use Rattle.plant_dev.proofs.Moments.{stays_honest, stays_more, reads_more}
+use Rattle.plant_dev.proofs.Offered.{stays_honest, stays_more, reads_more}
 use Rattle.mail_plan.specs.declared.entry.Entry.{Entry}
 use Rattle.mail_plan.specs.EntryText.{entry_text}
 use Rattle.queue_disk.specs.Reading.{IsHeld, IsRead, ReadsOn, NextAnswer}

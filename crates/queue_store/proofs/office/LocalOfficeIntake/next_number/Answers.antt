@@ -11,7 +11,7 @@ returns-in-Err-clause-gives g c =
       refl,
       refl,
       record {
-        does = subst (λ (e : IntakeFault). Counts s c.args.self.now.hub.now (Err e) s' c.next_number.new.self) (sym c.refused.ensures)
+        does = subst (λ (e : IntakeFault). Counts s c.args.self.now.hub.now (Err e) s' c.next_number.new.self) (sym c.intake_fault.ensures)
             (counts_err s s' c.args.self.now.hub.now c.next_number.new.self c.in-Err.fault c.in-Err.ensures.number (λ disk. c.in-Err.ensures.cause (ap Err disk)));
         stays = c.next_number.ensures.stays;
       },

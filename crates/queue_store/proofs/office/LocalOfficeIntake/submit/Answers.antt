@@ -12,7 +12,7 @@ returns-in-Err-clause-gives g c =
       refl,
       refl,
       record {
-        does = subst (λ (e : IntakeFault). Submits s hub c.args.submission c.args.clock (Err e) s' c.submit.new.self) (sym c.refused.ensures)
+        does = subst (λ (e : IntakeFault). Submits s hub c.args.submission c.args.clock (Err e) s' c.submit.new.self) (sym c.intake_fault.ensures)
             (submits_err s s' hub c.submit.new.self c.args.submission c.args.clock c.in-Err.fault c.in-Err.ensures.declines (λ disk. c.in-Err.ensures.cause (ap Err disk)));
         stays = c.submit.ensures.stays;
       },

@@ -1,0 +1,2 @@
+-- What crates above cite of these proofs.
+pub use Rattle.rule_terms.proofs.DeedForms.{book-form}
