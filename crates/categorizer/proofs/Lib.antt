@@ -12,3 +12,4 @@ pub mod Meeting
 pub mod Naming
 pub mod Reading
 pub mod Reporting
+pub mod Offered

@@ -12,9 +12,7 @@ impl Planner for HubPlanner {
     ghost use Rattle.org_directory.specs.Register.{is_inside};
     ghost use Rattle.categorizer.specs.Organisation.{Organisation, organisation_of};
     ghost use Rattle.categorizer.specs.Releasing.{hub_release, takes};
-    ghost use Rattle.categorizer.proofs.First as first;
-    ghost use Rattle.categorizer.proofs.Journaling as journaling;
-    ghost use Rattle.categorizer.proofs.Keeping as keeping;
+    ghost use Rattle.categorizer.proofs.Offered as offered;
 
     type Org = HubOrg;
 
@@ -46,19 +44,19 @@ impl Planner for HubPlanner {
         org.is_inside(key)
     }
 
-    ghost starts = { first.starts };
+    ghost starts = { offered.starts };
 
-    ghost own_texts = { keeping.own_texts };
+    ghost own_texts = { offered.own_texts };
 
-    ghost lawful = { keeping.lawful };
+    ghost lawful = { offered.lawful };
 
-    ghost targets_once = { keeping.targets_once };
+    ghost targets_once = { offered.targets_once };
 
-    ghost gates_once = { keeping.gates_once };
+    ghost gates_once = { offered.gates_once };
 
-    ghost sent_once = { keeping.sent_once };
+    ghost sent_once = { offered.sent_once };
 
-    ghost met_once = { keeping.met_once };
+    ghost met_once = { offered.met_once };
 
-    ghost reported = { journaling.reported };
+    ghost reported = { offered.reported };
 }
