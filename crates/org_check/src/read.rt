@@ -1,11 +1,11 @@
 // The whole of a source.
-ghost use Rattle.std.specs.Prelude.{◌≡◌, ◌<◌, ◌≤◌, List, ℕ, length, take, IfOk, OnErr, Ok, Err};
-ghost use Rattle.std.specs.Io.KnownBytes.{Consumes, Keeps, IsAtEnd};
-ghost use Rattle.port_io.specs.Causes.{HasCause, Rose};
+ghost use Rattle.std.specs.Prelude.{◌≡◌, ◌<◌, ◌≤◌, List, ℕ, Ok, Err};
+ghost use Rattle.std.specs.Io.KnownBytes.{Consumes};
+ghost use Rattle.port_io.specs.Causes.{Rose};
 ghost use Rattle.org_check.specs.Check.{ReadOf};
 
 use mail_names::{Bytes, NoMemory};
-use port_io::{Failed, Source};
+use port_io::{Failed, Source, read_piece};
 use std::alloc::Global;
 
 /// Octets that are read at a time.
@@ -22,23 +22,6 @@ pub enum ReadEnd {
     NoMemory,
     /// So many octets were taken without an end: 33,554,432.
     TooLong,
-}
-
-// Reads a piece of at most `room` octets; 0 is the end.
-fn read_piece<S: Source>(source: &mut S, wire: &mut [u8], room: usize) -> Result<usize, Failed>
-    requires some { 0 < room }
-    requires fits { room ≤ length wire.old }
-    ensures bound { IfOk result (λ count. count ≤ room) }
-    ensures long { IfOk result (λ count. length (take count wire.new) ≡ count) }
-    ensures bytes { IfOk result (λ count. Consumes (S.left source.old) (S.left source.new) (take count wire.new)) }
-    ensures end { result ≡ Ok 0 → IsAtEnd (S.left source.new) }
-    ensures kept { OnErr result (Keeps (S.left source.old) (S.left source.new)) }
-    ensures cause { HasCause (S.faults source.old) (S.faults source.new) result }
-{
-    match source.read(&mut wire[..room]) {
-        Ok(count) => Ok(count),
-        Err(failed) => Err(failed),
-    }
 }
 
 /// All octets of a source, fewer than 33,554,432.

@@ -1,16 +1,15 @@
 // One session over any intake.
-ghost use Rattle.std.specs.Prelude.{◌≡◌, ◌≢◌, ◌<◌, ◌≤◌, take, length, ℕ, List, [], ◌++◌, IfOk, IfErr, OnOk, OnErr, Ok, Err, Option, None};
-ghost use Rattle.std.specs.Io.KnownBytes.{Appends, Consumes, Keeps, IsAtEnd};
-ghost use Rattle.port_io.specs.Causes.{HasCause, Rose};
-ghost use Rattle.port_io.specs.Told.{AppendsPrefix};
+ghost use Rattle.std.specs.Prelude.{◌≡◌, ◌≢◌, ◌<◌, ◌≤◌, ℕ, List, IfOk, IfErr, OnOk, Ok, Err, Option, None};
+ghost use Rattle.std.specs.Io.KnownBytes.{Appends, Consumes};
+ghost use Rattle.port_io.specs.Causes.{Rose};
 ghost use Rattle.mail_plan.specs.declared.intake.Accepted.{Accepted};
 ghost use Rattle.mail_plan.specs.declared.intake.IntakeFault.{IntakeFault};
 ghost use Rattle.smtp_front.specs.declared.react.Phase.{Phase};
-ghost use Rattle.smtp_front.specs.Events.{Held, fed, nothing, next_of};
+ghost use Rattle.smtp_front.specs.Events.{Held, nothing, next_of};
 ghost use Rattle.smtp_front.specs.Holds.{Holds, unread};
 ghost use Rattle.smtp_front.specs.Replies.{line_text, reply_text};
 ghost use Rattle.smtp_front.specs.React.{react};
-ghost use Rattle.smtp_front.specs.Turns.{answer_end, behind, end_at, replied, reply_of};
+ghost use Rattle.smtp_front.specs.Turns.{answer_end, behind, end_at};
 ghost use Rattle.smtp_front.specs.Sessions.{StaysOpen, WentOn, Spoke};
 ghost use Rattle.smtp_front.specs.Drains.{Unsaid, Asked, Drains, Closed};
 
@@ -20,7 +19,7 @@ use crate::reply::{Line, Reply, answer_reply};
 use crate::session_end::SessionEnd;
 use mail_names::{Bytes, NoMemory};
 use mail_plan::{Accepted, Intake, IntakeFault};
-use port_io::{Clock, Failed, Sink, Source, write_all_to};
+use port_io::{Clock, Failed, Sink, Source, read_piece, write_all_to};
 use std::alloc::Global;
 
 /// The most octets that a session takes.
@@ -215,23 +214,6 @@ fn end_at(dialog: &Dialog) -> SessionEnd
         SessionEnd::EndOfInput
     } else {
         SessionEnd::Cut
-    }
-}
-
-// Reads a piece of at most `room` octets; 0 is the end.
-fn read_piece<S: Source>(source: &mut S, wire: &mut [u8], room: usize) -> Result<usize, Failed>
-    requires some { 0 < room }
-    requires fits { room ≤ length wire.old }
-    ensures bound { IfOk result (λ count. count ≤ room) }
-    ensures long { IfOk result (λ count. length (take count wire.new) ≡ count) }
-    ensures bytes { IfOk result (λ count. Consumes (S.left source.old) (S.left source.new) (take count wire.new)) }
-    ensures end { result ≡ Ok 0 → IsAtEnd (S.left source.new) }
-    ensures kept { OnErr result (Keeps (S.left source.old) (S.left source.new)) }
-    ensures cause { HasCause (S.faults source.old) (S.faults source.new) result }
-{
-    match source.read(&mut wire[..room]) {
-        Ok(count) => Ok(count),
-        Err(failed) => Err(failed),
     }
 }
 
