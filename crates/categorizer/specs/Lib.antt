@@ -2,3 +2,4 @@ pub mod Growth
 pub mod Organisation
 pub mod Plan
 pub mod Releasing
+pub mod Meaning

@@ -1,6 +1,7 @@
 -- What the planner's laws say of the releases of a hub that is set up over it.
 use Rattle.std.proofs.Common.{◌≡◌, ℕ, ◌<◌, Bool, true, false, List, Option, Result, Ok, Err, refl}
 use Rattle.mail_plan.specs.Entries.{IsRelease}
+use Rattle.mail_plan.specs.Means.{Means}
 use Rattle.mail_plan.specs.Planning.{Input, IsInput, Opening, Reports, is_among, are_distinct, targets, input_at}
 use Rattle.mail_plan.specs.declared.planner.OrgFault.{OrgFault}
 use Rattle.mail_plan.specs.declared.release.Release.{Release}
@@ -41,11 +42,10 @@ module _ {Org : Type 0} (release_of : Org → Input → Release) where
   apart-read law (Err fault) base opened earlier later key below h = refl
 
 -- It holds of the setup of a hub over the planner.
-pub is-planned : {Org : Type 0} (reads : List ℕ → List ℕ → Result Org OrgFault) (release_of : Org → Input → Release) (inside : Org → List ℕ → Bool)
-    (takes : Org → Option (List ℕ) → List ℕ → List ℕ → Bool) (limits : Limits) → ((org : Org) → AreReportedBy (release_of org) (takes org)) →
-    ((org : Org) → SendOnce (release_of org)) → ((org : Org) → SendApart (release_of org)) → IsPlanned (setup_of reads release_of inside takes limits)
-is-planned reads release_of inside takes limits reported once apart = record {
-  reported = λ texts. reported-read release_of takes reported (reads texts.directory texts.rules);
-  once = λ texts. once-read release_of once (reads texts.directory texts.rules);
-  apart = λ texts. apart-read release_of apart (reads texts.directory texts.rules);
+pub is-planned : {Org : Type 0} (means : Means Org) (limits : Limits) → ((org : Org) → AreReportedBy (means.release_of org) (means.takes org)) →
+    ((org : Org) → SendOnce (means.release_of org)) → ((org : Org) → SendApart (means.release_of org)) → IsPlanned (setup_of means limits)
+is-planned means limits reported once apart = record {
+  reported = λ texts. reported-read means.release_of means.takes reported (means.reads texts.directory texts.rules);
+  once = λ texts. once-read means.release_of once (means.reads texts.directory texts.rules);
+  apart = λ texts. apart-read means.release_of apart (means.reads texts.directory texts.rules);
 }

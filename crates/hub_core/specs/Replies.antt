@@ -79,7 +79,7 @@ reply_delivered s name = if list_any (is_named name) s.waiting then replies.Done
 abbrev pub reply_to : {T Org : Type 0} → (Org → Texts) → Setup → Standing → Command T Org → Reply
 reply_to texts setup s (commands.Organise directory rules) = reply_organise setup s (record { directory = directory; rules = rules })
 reply_to texts setup s (commands.Submit submission clock) = reply_submit s submission
-reply_to texts setup s (commands.Commit outcome) = reply_commit s outcome.1 (texts outcome.0)
+reply_to texts setup s (commands.Commit outcome) = reply_commit s outcome.input (texts outcome.org)
 reply_to texts setup s (commands.Decide approval by verdict clock) = reply_decide s approval by verdict clock
 reply_to texts setup s (commands.Moment clock) = replies.Done
 reply_to texts setup s (commands.Delivered name) = reply_delivered s name

@@ -1,5 +1,6 @@
 -- How a hub is set up: the limits that it is held to, and what its planner makes of organisations.
 use Rattle.std.specs.Prelude.{ℕ, Bool, false, List, [], Option, Some, None, Result, Ok, Err}
+use Rattle.mail_plan.specs.Means.{Means}
 use Rattle.mail_plan.specs.Planning.{Input, first_directory}
 use Rattle.mail_plan.specs.declared.planner.OrgFault.{OrgFault}
 use Rattle.mail_plan.specs.declared.release.Release.{Release}
@@ -10,8 +11,8 @@ pub record Texts : Type 0 where
   pub directory : List ℕ
   pub rules : List ℕ
 
-abbrev pub texts_of : {Org : Type 0} → (Org → List ℕ) → (Org → List ℕ) → Org → Texts
-texts_of directory_of rules_of org = record { directory = directory_of org; rules = rules_of org }
+abbrev pub texts_of : {Org : Type 0} → Means Org → Org → Texts
+texts_of means org = record { directory = means.directory_of org; rules = means.rules_of org }
 
 -- the organisation that stands before any other: it has no objects and no rules
 abbrev pub first_org : Texts
@@ -45,12 +46,12 @@ abbrev pub takes_in : {Org : Type 0} → (Org → Option (List ℕ) → List ℕ
 takes_in takes (Ok org) sender mailbox target = takes org sender mailbox target
 takes_in takes (Err fault) sender mailbox target = false
 
--- the setup of a hub over a planner that reads organisations, makes releases, and knows who is inside and what is taken so
-abbrev pub setup_of : {Org : Type 0} → (List ℕ → List ℕ → Result Org OrgFault) → (Org → Input → Release) → (Org → List ℕ → Bool) → (Org → Option (List ℕ) → List ℕ → List ℕ → Bool) → Limits → Setup
-setup_of reads release_of inside takes limits = record {
+-- the setup of a hub over a planner that makes this of organisations
+abbrev pub setup_of : {Org : Type 0} → Means Org → Limits → Setup
+setup_of means limits = record {
   limits = limits;
-  fault_of = λ texts. fault_in (reads texts.directory texts.rules);
-  release_of = λ texts input. release_in release_of (reads texts.directory texts.rules) input;
-  inside = λ texts key. inside_in inside (reads texts.directory texts.rules) key;
-  takes = λ texts sender mailbox target. takes_in takes (reads texts.directory texts.rules) sender mailbox target;
+  fault_of = λ texts. fault_in (means.reads texts.directory texts.rules);
+  release_of = λ texts input. release_in means.release_of (means.reads texts.directory texts.rules) input;
+  inside = λ texts key. inside_in means.inside (means.reads texts.directory texts.rules) key;
+  takes = λ texts sender mailbox target. takes_in means.takes (means.reads texts.directory texts.rules) sender mailbox target;
 }

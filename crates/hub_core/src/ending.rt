@@ -76,7 +76,7 @@ fn tell<T: Planner>(
     what: &Notice,
 ) -> Result<(), NoMemory>
     requires { moment ≤ LAST_MOMENT }
-    ensures { OnOk result ((limits : Limits) → told.new.items ≡ told.old.items ++ end_told (setup_of T.reads T.release_of T.inside T.takes limits) name.now live.now asking.now moment what.now) }
+    ensures { OnOk result ((limits : Limits) → told.new.items ≡ told.old.items ++ end_told (setup_of T.means limits) name.now live.now asking.now moment what.now) }
 {
     let submission = live.submission();
     let Some(sender) = submission.reverse() else {
@@ -98,7 +98,7 @@ fn tell_refusal<T: Planner>(
     moment: u64,
 ) -> Result<(), NoMemory>
     requires { moment ≤ LAST_MOMENT }
-    ensures { OnOk result ((limits : Limits) → told.new.items ≡ told.old.items ++ refused_told (setup_of T.reads T.release_of T.inside T.takes limits) name.now by.now moment live.now (asking_at live.now name.now)) }
+    ensures { OnOk result ((limits : Limits) → told.new.items ≡ told.old.items ++ refused_told (setup_of T.means limits) name.now by.now moment live.now (asking_at live.now name.now)) }
 {
     let Some(asking) = live.asking(name) else {
         return Ok(());
@@ -122,7 +122,7 @@ pub fn refused_told<T: Planner>(
 ) -> Result<VecDeque<QueuedItem>, NoMemory>
     requires taken { is_taken (decision_in (slice_get lives.now place) name.now by.now verdicts.Reject moment) ≡ true }
     requires moment { moment ≤ LAST_MOMENT }
-    ensures { IfOk result (λ told. (limits : Limits) → told.items ≡ decided_told (setup_of T.reads T.release_of T.inside T.takes limits) name.now by.now moment (slice_get lives.now place)) }
+    ensures { IfOk result (λ told. (limits : Limits) → told.items ≡ decided_told (setup_of T.means limits) name.now by.now moment (slice_get lives.now place)) }
 {
     let mut told = VecDeque::new(alloc);
     if let Some(live) = lives.get(place) {
@@ -148,7 +148,7 @@ fn tell_run_out<T: Planner>(
     moment: u64,
 ) -> Result<(), NoMemory>
     requires { moment ≤ LAST_MOMENT }
-    ensures { OnOk result ((limits : Limits) → told.new.items ≡ told.old.items ++ run_out_told (setup_of T.reads T.release_of T.inside T.takes limits) name.now live.now asking.now moment) }
+    ensures { OnOk result ((limits : Limits) → told.new.items ≡ told.old.items ++ run_out_told (setup_of T.means limits) name.now live.now asking.now moment) }
 {
     if !runs_out(&asking.approval, moment) {
         return Ok(());
@@ -172,7 +172,7 @@ fn tell_asks<T: Planner>(
     release: u32,
 ) -> Result<(), NoMemory>
     requires moment { moment ≤ LAST_MOMENT }
-    ensures { OnOk result ((limits : Limits) → told.new.items ≡ told.old.items ++ asks_told (setup_of T.reads T.release_of T.inside T.takes limits) live.now moment submission release 0 asks.now) }
+    ensures { OnOk result ((limits : Limits) → told.new.items ≡ told.old.items ++ asks_told (setup_of T.means limits) live.now moment submission release 0 asks.now) }
 {
     for (gate, asking) in asks.iter().enumerate() {
         // So many approvals would take more memory than there is.
@@ -198,7 +198,7 @@ fn tell_stages<T: Planner>(
     submission: u64,
 ) -> Result<(), NoMemory>
     requires { moment ≤ LAST_MOMENT }
-    ensures { OnOk result ((limits : Limits) → told.new.items ≡ told.old.items ++ stages_told (setup_of T.reads T.release_of T.inside T.takes limits) live.now moment submission 0 live.now.stages) }
+    ensures { OnOk result ((limits : Limits) → told.new.items ≡ told.old.items ++ stages_told (setup_of T.means limits) live.now moment submission 0 live.now.stages) }
 {
     for (release, stage) in live.stages().iter().enumerate() {
         tell_asks(
@@ -221,7 +221,7 @@ pub fn all_told<T: Planner>(
     moment: u64,
 ) -> Result<VecDeque<QueuedItem>, NoMemory>
     requires { moment ≤ LAST_MOMENT }
-    ensures { IfOk result (λ told. (limits : Limits) → told.items ≡ all_told (setup_of T.reads T.release_of T.inside T.takes limits) moment 1 lives.now) }
+    ensures { IfOk result (λ told. (limits : Limits) → told.items ≡ all_told (setup_of T.means limits) moment 1 lives.now) }
 {
     let mut told = VecDeque::new(alloc);
     for (place, live) in lives.iter().enumerate() {

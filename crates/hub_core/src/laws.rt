@@ -16,13 +16,13 @@ use mail_plan::Planner;
 /// No two items that entries prescribe have one name, be they lawful or not.
 pub fn names_are_unique<T: Planner>()
     ensures { (limits : Limits) (history : List Entry) →
-        AllPairs (λ (a b : ItemName). a ≢ b) (map (λ (item : QueuedItem). item.name) (items (setup_of T.reads T.release_of T.inside T.takes limits) history)) }
+        AllPairs (λ (a b : ItemName). a ≢ b) (map (λ (item : QueuedItem). item.name) (items (setup_of T.means limits) history)) }
 {}
 
 /// Over all releases of a submission, of whatever organisation and behind whatever gates, no two versions have one target.
 pub fn each_target_once<T: Planner>()
     ensures { (limits : Limits) (number : ℕ) (a : Accepted) →
-        are_distinct (all_targets ((setup_of T.reads T.release_of T.inside T.takes limits).release_of a.org) (first_input number a.epoch a.moment a.submission) a.opened (suc (length a.opened))) ≡ true }
+        are_distinct (all_targets ((setup_of T.means limits).release_of a.org) (first_input number a.epoch a.moment a.submission) a.opened (suc (length a.opened))) ≡ true }
 {
     mail_plan::laws::each_target_once::<T>();
 }
@@ -31,8 +31,8 @@ pub fn each_target_once<T: Planner>()
 /// list exactly the versions of these releases that the mailbox takes, each once, with why it is a target.
 pub fn reports_list_what_is_sent<T: Planner>()
     ensures { (limits : Limits) (history : List Entry) →
-        IsHistory (setup_of T.reads T.release_of T.inside T.takes limits) history → AllByRecursion IsEntry history →
-        IsJournaled (setup_of T.reads T.release_of T.inside T.takes limits) history }
+        IsHistory (setup_of T.means limits) history → AllByRecursion IsEntry history →
+        IsJournaled (setup_of T.means limits) history }
 {
     mail_plan::laws::no_target_twice::<T>();
 }

@@ -53,9 +53,9 @@ impl<T: Planner> Model for Live<T> {
 
     ghost Value = { LiveMail };
 
-    ghost view = { λ l. record { submission = arc_value l.submission; accepted_at = l.accepted_at; epoch = l.epoch; org = option_map (λ org. texts_of T.directory_of T.rules_of (arc_value org)) l.org; opened = l.opened.items; stages = l.stages.items } };
+    ghost view = { λ l. record { submission = arc_value l.submission; accepted_at = l.accepted_at; epoch = l.epoch; org = option_map (λ org. texts_of T.means (arc_value org)) l.org; opened = l.opened.items; stages = l.stages.items } };
 
-    ghost invariant = { λ l. IsLive (record { submission = arc_value l.submission; accepted_at = l.accepted_at; epoch = l.epoch; org = option_map (λ org. texts_of T.directory_of T.rules_of (arc_value org)) l.org; opened = l.opened.items; stages = l.stages.items }) };
+    ghost invariant = { λ l. IsLive (record { submission = arc_value l.submission; accepted_at = l.accepted_at; epoch = l.epoch; org = option_map (λ org. texts_of T.means (arc_value org)) l.org; opened = l.opened.items; stages = l.stages.items }) };
 }
 
 impl<T: Planner> Live<T> {
@@ -68,7 +68,7 @@ impl<T: Planner> Live<T> {
         org: Arc<T::Org>,
     ) -> Result<Live<T>, NoMemory>
         requires { accepted_at ≤ LAST_MOMENT }
-        ensures { IfOk result (λ live. live ≡ new_mail submission accepted_at epoch (texts_of T.directory_of T.rules_of (arc_value org))) }
+        ensures { IfOk result (λ live. live ≡ new_mail submission accepted_at epoch (texts_of T.means (arc_value org))) }
     {
         let submission = Arc::new(alloc, submission)?;
         let mut stages = Vec::new(alloc);
@@ -152,7 +152,7 @@ impl<T: Planner> Live<T> {
     ) -> Result<Option<Task<T>>, NoMemory>
         ensures waits { IfOk result (λ task. is_some task ≡ waits self.now release) }
         ensures release { IfOk result (λ task. IfSome task (λ t. t.input.release ≡ release)) }
-        ensures made { IfOk result (λ task. IfSome task (λ t. IsTask number self.now t.input (texts_of T.directory_of T.rules_of (arc_value t.org)))) }
+        ensures made { IfOk result (λ task. IfSome task (λ t. IsTask number self.now t.input (texts_of T.means (arc_value t.org)))) }
     {
         if !self.waits(release) {
             return Ok(None);
@@ -179,7 +179,7 @@ impl<T: Planner> Live<T> {
 
     /// What is answered to an outcome for one of its releases, where it has this number.
     pub fn judge(&self, alloc: Global, number: u64, outcome: &Outcome<T>) -> Result<Reply, NoMemory>
-        ensures { IfOk result (λ reply. reply ≡ reply_stage number self.now outcome.now.1 (texts_of T.directory_of T.rules_of outcome.now.0) (slice_get self.now.stages outcome.now.1.release)) }
+        ensures { IfOk result (λ reply. reply ≡ reply_stage number self.now outcome.now.input (texts_of T.means outcome.now.org) (slice_get self.now.stages outcome.now.input.release)) }
     {
         let release = outcome.input().release();
         match self.stages.get(release as usize) {
@@ -215,7 +215,7 @@ impl<T: Planner> Live<T> {
 
     /// Whether the sender of this key is told of an approval's end.
     pub fn is_told(&self, sender: &Key, tell: Tell) -> bool
-        ensures { (limits : Limits) → result ≡ is_told (setup_of T.reads T.release_of T.inside T.takes limits) self.now.org sender.now tell }
+        ensures { (limits : Limits) → result ≡ is_told (setup_of T.means limits) self.now.org sender.now tell }
     {
         match tell {
             Tell::Always => true,
@@ -367,7 +367,7 @@ pub fn asking_for<'a, T: Planner>(
 }
 
 fn is_inside<T: Planner>(org: &T::Org, sender: &Key) -> bool
-    ensures { (limits : Limits) → result ≡ (setup_of T.reads T.release_of T.inside T.takes limits).inside (texts_of T.directory_of T.rules_of org.now) sender.now }
+    ensures { (limits : Limits) → result ≡ (setup_of T.means limits).inside (texts_of T.means org.now) sender.now }
 {
     let _texts = T::texts(org);
     T::is_inside(org, sender)
@@ -375,7 +375,7 @@ fn is_inside<T: Planner>(org: &T::Org, sender: &Key) -> bool
 
 // What is answered to an outcome for a task.
 fn compared<T: Planner>(task: &Task<T>, outcome: &Outcome<T>) -> Reply
-    ensures { result ≡ reply_input (first_difference task.now.input (texts_of T.directory_of T.rules_of (arc_value task.now.org)) outcome.now.1 (texts_of T.directory_of T.rules_of outcome.now.0)) }
+    ensures { result ≡ reply_input (first_difference task.now.input (texts_of T.means (arc_value task.now.org)) outcome.now.input (texts_of T.means outcome.now.org)) }
 {
     match first_difference::<T>(&task.input, &task.org, outcome) {
         None => Reply::Committed,

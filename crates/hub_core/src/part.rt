@@ -159,7 +159,7 @@ fn orgs_differ<T: Planner>(
     other: &T::Org,
     behind: Option<Difference>,
 ) -> Option<Difference>
-    ensures { result ≡ orgs_differ (texts_of T.directory_of T.rules_of org.now) (texts_of T.directory_of T.rules_of other.now) behind }
+    ensures { result ≡ orgs_differ (texts_of T.means org.now) (texts_of T.means other.now) behind }
 {
     let (directory, rules) = T::texts(org);
     let (other_directory, other_rules) = T::texts(other);
@@ -177,7 +177,7 @@ pub fn first_difference<T: Planner>(
     org: &T::Org,
     outcome: &Outcome<T>,
 ) -> Option<Difference>
-    ensures { result ≡ first_difference input.now (texts_of T.directory_of T.rules_of org.now) outcome.now.1 (texts_of T.directory_of T.rules_of outcome.now.0) }
+    ensures { result ≡ first_difference input.now (texts_of T.means org.now) outcome.now.input (texts_of T.means outcome.now.org) }
 {
     let made_from = outcome.input();
     let submissions = submissions_differ(input.submission(), made_from.submission());

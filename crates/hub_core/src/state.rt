@@ -45,14 +45,14 @@ impl<T: Planner> Model for State<T> {
 
     ghost Value = { Standing };
 
-    ghost view = { λ s. record { limits = s.limits; moment = s.moment; epoch = s.epoch; newest = texts_of T.directory_of T.rules_of (arc_value s.newest); live = s.live; waiting = s.waiting.items } };
+    ghost view = { λ s. record { limits = s.limits; moment = s.moment; epoch = s.epoch; newest = texts_of T.means (arc_value s.newest); live = s.live; waiting = s.waiting.items } };
 
     ghost invariant = { λ s. (s.moment ≤ last_moment) × (s.bytes ≡ live_bytes s.live) };
 }
 
 // The organisation that stands before any other.
 fn first_org<T: Planner>(alloc: Global) -> Result<T::Org, NoMemory>
-    ensures { IfOk result (λ org. texts_of T.directory_of T.rules_of org ≡ first_org) }
+    ensures { IfOk result (λ org. texts_of T.means org ≡ first_org) }
 {
     match T::read_org(alloc, FIRST_DIRECTORY, &[]) {
         Ok(org) => Ok(org),
@@ -65,7 +65,7 @@ fn first_org<T: Planner>(alloc: Global) -> Result<T::Org, NoMemory>
 impl<T: Planner> State<T> {
     /// The state of the empty history under these limits.
     pub fn start(alloc: Global, limits: Limits) -> Result<State<T>, NoMemory>
-        ensures { IfOk result (λ state. state ≡ start (setup_of T.reads T.release_of T.inside T.takes limits)) }
+        ensures { IfOk result (λ state. state ≡ start (setup_of T.means limits)) }
     {
         let newest = Arc::new(alloc, first_org::<T>(alloc)?)?;
         Ok(State {
@@ -165,7 +165,7 @@ impl<T: Planner> State<T> {
     /// The item of this name, if it waits.
     pub fn item(&self, name: &ItemName) -> Option<&QueuedItem>
         ensures value { option_copied result ≡ find (is_named name.now) self.now.waiting }
-        ensures waits { IsSome result → is_lawful (setup_of T.reads T.release_of T.inside T.takes self.now.limits) self.now (Entry.Delivered name.now) ≡ true }
+        ensures waits { IsSome result → is_lawful (setup_of T.means self.now.limits) self.now (Entry.Delivered name.now) ≡ true }
     {
         find(&self.waiting, name)
     }
@@ -181,7 +181,7 @@ impl<T: Planner> State<T> {
     pub fn task_of(&self, alloc: Global, name: &TaskName) -> Result<Option<Task<T>>, NoMemory>
         ensures waits { IfOk result (λ task. is_some task ≡ is_uncategorised (mail_of self.now name.now.submission) name.now.release) }
         ensures release { IfOk result (λ task. IfSome task (λ t. t.input.release ≡ name.now.release)) }
-        ensures made { IfOk result (λ task. IfSome task (λ t. IfSome (mail_of self.now name.now.submission) (λ mail. IsTask name.now.submission mail t.input (texts_of T.directory_of T.rules_of (arc_value t.org))))) }
+        ensures made { IfOk result (λ task. IfSome task (λ t. IfSome (mail_of self.now name.now.submission) (λ mail. IsTask name.now.submission mail t.input (texts_of T.means (arc_value t.org))))) }
     {
         if name.submission == 0 {
             return Ok(None);
@@ -217,7 +217,7 @@ impl<T: Planner> State<T> {
     ) -> Result<Option<Task<T>>, NoMemory>
         requires { residue < workers }
         ensures first { IfOk result (λ task. option_map (λ (t : _). task_name t.input) task ≡ first_task residue workers 1 self.now.live) }
-        ensures made { IfOk result (λ task. IfSome task (λ t. IfSome (mail_of self.now t.input.number) (λ mail. IsTask t.input.number mail t.input (texts_of T.directory_of T.rules_of (arc_value t.org))))) }
+        ensures made { IfOk result (λ task. IfSome task (λ t. IfSome (mail_of self.now t.input.number) (λ mail. IsTask t.input.number mail t.input (texts_of T.means (arc_value t.org))))) }
     {
         match self.first_task(residue, workers) {
             None => Ok(None),
@@ -227,7 +227,7 @@ impl<T: Planner> State<T> {
 
     /// What is answered to a command.
     pub fn judge(&self, alloc: Global, command: &Command<T>) -> Result<Reply, NoMemory>
-        ensures { IfOk result (λ reply. reply ≡ reply_to (texts_of T.directory_of T.rules_of) (setup_of T.reads T.release_of T.inside T.takes self.now.limits) self.now command.now) }
+        ensures { IfOk result (λ reply. reply ≡ reply_to (texts_of T.means) (setup_of T.means self.now.limits) self.now command.now) }
     {
         match command {
             Command::Organise { directory, rules } => {
@@ -253,7 +253,7 @@ impl<T: Planner> State<T> {
         directory: &[u8],
         rules: &[u8],
     ) -> Result<Reply, NoMemory>
-        ensures { IfOk result (λ reply. reply ≡ reply_organise (setup_of T.reads T.release_of T.inside T.takes self.now.limits) self.now (record { directory = directory.now; rules = rules.now })) }
+        ensures { IfOk result (λ reply. reply ≡ reply_organise (setup_of T.means self.now.limits) self.now (record { directory = directory.now; rules = rules.now })) }
     {
         match T::read_org(alloc, directory, rules) {
             Err(OrgFault::NoMemory) => Err(NoMemory),
@@ -344,7 +344,7 @@ impl<T: Planner> State<T> {
     /// What is answered to an outcome: it is taken where it was made from the input of a release that waits to be
     /// categorised, and by its organisation.
     pub fn judge_commit(&self, alloc: Global, outcome: &Outcome<T>) -> Result<Reply, NoMemory>
-        ensures { IfOk result (λ reply. reply ≡ reply_commit self.now outcome.now.1 (texts_of T.directory_of T.rules_of outcome.now.0)) }
+        ensures { IfOk result (λ reply. reply ≡ reply_commit self.now outcome.now.input (texts_of T.means outcome.now.org)) }
     {
         let number = outcome.input().number();
         if number == 0 {
@@ -371,7 +371,7 @@ impl<T: Planner> State<T> {
     ///
     /// After a refusal the state is as it was.
     pub fn apply(&mut self, alloc: Global, entry: Entry) -> Result<(), StepFault>
-        ensures { Applies (setup_of T.reads T.release_of T.inside T.takes self.old.limits) self.old entry result self.new }
+        ensures { Applies (setup_of T.means self.old.limits) self.old entry result self.new }
     {
         match entry {
             Entry::Organised { directory, rules } => {
@@ -396,7 +396,7 @@ impl<T: Planner> State<T> {
 
     // An organisation comes into force, if these are the texts of one.
     fn organise(&mut self, alloc: Global, directory: &[u8], rules: &[u8]) -> Result<(), StepFault>
-        ensures { Applies (setup_of T.reads T.release_of T.inside T.takes self.old.limits) self.old (Entry.Organised directory.now rules.now) result self.new }
+        ensures { Applies (setup_of T.means self.old.limits) self.old (Entry.Organised directory.now rules.now) result self.new }
     {
         match T::read_org(alloc, directory, rules) {
             Ok(org) => self.change(alloc, org),
@@ -408,7 +408,7 @@ impl<T: Planner> State<T> {
 
     // This organisation comes into force, if it is another one and there is room for it.
     fn change(&mut self, alloc: Global, org: T::Org) -> Result<(), StepFault>
-        ensures { (directory rules : List ℕ) → T.reads directory rules ≡ Ok org → Applies (setup_of T.reads T.release_of T.inside T.takes self.old.limits) self.old (Entry.Organised directory rules) result self.new }
+        ensures { (directory rules : List ℕ) → T.means.reads directory rules ≡ Ok org → Applies (setup_of T.means self.old.limits) self.old (Entry.Organised directory rules) result self.new }
     {
         let (directory, rules) = T::texts(&org);
         if self.is_newest(directory, rules) {
@@ -443,7 +443,7 @@ impl<T: Planner> State<T> {
         moment: u64,
         submission: Submission,
     ) -> Result<(), StepFault>
-        ensures { Applies (setup_of T.reads T.release_of T.inside T.takes self.old.limits) self.old (Entry.Accepted moment submission) result self.new }
+        ensures { Applies (setup_of T.means self.old.limits) self.old (Entry.Accepted moment submission) result self.new }
     {
         if !self.is_moment(moment)
             || self.live.place_of_same(&submission).is_some()
@@ -470,7 +470,7 @@ impl<T: Planner> State<T> {
         release: u32,
         plan: Release,
     ) -> Result<(), StepFault>
-        ensures { Applies (setup_of T.reads T.release_of T.inside T.takes self.old.limits) self.old (Entry.Categorised number release plan) result self.new }
+        ensures { Applies (setup_of T.means self.old.limits) self.old (Entry.Categorised number release plan) result self.new }
     {
         if number == 0
             || !is_uncategorised(self.live.as_slice(), (number - 1) as usize, release)
@@ -497,7 +497,7 @@ impl<T: Planner> State<T> {
 
     // An item is in its folder.
     fn deliver(&mut self, name: &ItemName) -> Result<(), StepFault>
-        ensures { Applies (setup_of T.reads T.release_of T.inside T.takes self.old.limits) self.old (Entry.Delivered name.now) result self.new }
+        ensures { Applies (setup_of T.means self.old.limits) self.old (Entry.Delivered name.now) result self.new }
     {
         if !is_waiting(&self.waiting, name) {
             return Err(StepFault::NotLawful);

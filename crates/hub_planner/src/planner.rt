@@ -8,25 +8,12 @@ use std::alloc::Global;
 pub struct HubPlanner;
 
 impl Planner for HubPlanner {
-    ghost use Rattle.std.specs.Prelude.{◌≡◌, ℕ, Bool, true, false, List, Result, Ok};
-    ghost use Rattle.org_directory.specs.Register.{is_inside};
-    ghost use Rattle.categorizer.specs.Organisation.{Organisation, organisation_of};
-    ghost use Rattle.categorizer.specs.Releasing.{hub_release, takes};
+    ghost use Rattle.categorizer.specs.Meaning.{hub_means};
     ghost use Rattle.categorizer.proofs.Offered as offered;
 
     type Org = HubOrg;
 
-    ghost reads = { organisation_of };
-
-    ghost directory_of = { λ (org : Organisation). org.directory_text };
-
-    ghost rules_of = { λ (org : Organisation). org.rules_text };
-
-    ghost release_of = { hub_release };
-
-    ghost inside = { λ (org : Organisation) key. is_inside org.register key };
-
-    ghost takes = { takes };
+    ghost means = { hub_means };
 
     fn read_org(alloc: Global, directory: &[u8], rules: &[u8]) -> Result<HubOrg, OrgFault> {
         HubOrg::read(alloc, directory, rules)

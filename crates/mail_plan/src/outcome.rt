@@ -27,19 +27,18 @@ pub struct Outcome<T: Planner> {
 impl<T: Planner> Model for Outcome<T> {
     ghost use Rattle.std.specs.Prelude.{◌≡◌};
     ghost use Rattle.std.specs.Arc.{arc_value};
-    ghost use Rattle.mail_plan.specs.Planning.{Input};
-    ghost use Rattle.mail_plan.specs.declared.release.Release.{Release};
+    ghost use Rattle.mail_plan.specs.Means.{Made};
 
-    ghost Value = { T.Org × Input × Release };
+    ghost Value = { Made T.Org };
 
-    ghost view = { λ o. (arc_value o.org, o.input, o.release) };
+    ghost view = { λ o. record { org = arc_value o.org; input = o.input; release = o.release } };
 
-    ghost invariant = { λ o. o.release ≡ T.release_of (arc_value o.org) o.input };
+    ghost invariant = { λ o. o.release ≡ T.means.release_of (arc_value o.org) o.input };
 }
 
 /// Makes the release of a task.
 pub fn plan<T: Planner>(alloc: Global, task: Task<T>) -> Result<Outcome<T>, NoMemory>
-    ensures { IfOk result (λ outcome. outcome ≡ (arc_value task.org, task.input, T.release_of (arc_value task.org) task.input)) }
+    ensures { IfOk result (λ outcome. outcome ≡ record { org = arc_value task.org; input = task.input; release = T.means.release_of (arc_value task.org) task.input }) }
 {
     let Task { org, input } = task;
     let release = T::release(alloc, &org, &input)?;
@@ -53,29 +52,29 @@ pub fn plan<T: Planner>(alloc: Global, task: Task<T>) -> Result<Outcome<T>, NoMe
 impl<T: Planner> Outcome<T> {
     /// The organisation by which the release was made.
     pub fn org(&self) -> &T::Org
-        ensures { result.now ≡ self.now.0 }
+        ensures { result.now ≡ self.now.org }
     {
         &self.org
     }
 
     /// What the release was made from.
     pub fn input(&self) -> &ReleaseInput
-        ensures { result.now ≡ self.now.1 }
+        ensures { result.now ≡ self.now.input }
     {
         &self.input
     }
 
     /// The release, which is the one that the planner prescribes.
     pub fn release(&self) -> &Release
-        ensures value { result.now ≡ self.now.2 }
-        ensures prescribed { result.now ≡ T.release_of self.now.0 self.now.1 }
+        ensures value { result.now ≡ self.now.release }
+        ensures prescribed { result.now ≡ T.means.release_of self.now.org self.now.input }
     {
         &self.release
     }
 
     /// Gives the release up.
     pub fn into_release(self) -> Release
-        ensures { result ≡ self.2 }
+        ensures { result ≡ self.release }
     {
         let Outcome {
             org: _,

@@ -70,9 +70,9 @@ impl<T: Planner> Hub<T> {
         plant: &mut P,
         entry: Entry,
     ) -> Result<(), HubFault>
-        requires { is_lawful (setup_of T.reads T.release_of T.inside T.takes self.old.state.limits) self.old.state entry ≡ true }
+        requires { is_lawful (setup_of T.means self.old.state.limits) self.old.state entry ≡ true }
         ensures adds { (setup : Setup) (h : List Entry) → IsReady setup (P.state plant.old) self.old h → Follows setup h entry (P.state plant.old).image.shelf →
-            state_after setup self.old.state entry ≡ state_after (setup_of T.reads T.release_of T.inside T.takes self.old.state.limits) self.old.state entry →
+            state_after setup self.old.state entry ≡ state_after (setup_of T.means self.old.state.limits) self.old.state entry →
             OnOk result (Adds setup (P.state plant.new) self.new h (entry ∷ [])) }
         ensures declines { (setup : Setup) (h : List Entry) → IsReady setup (P.state plant.old) self.old h →
             IfErr result (λ e. (e ≡ HubFault.DiskFault) ⊎ Declined setup (P.state plant.new) self.new h (entry ∷ []) e) }
@@ -103,12 +103,12 @@ impl<T: Planner> Hub<T> {
         plant: &mut P,
         outcome: Outcome<T>,
     ) -> Result<(), HubFault>
-        requires { IsWaiting self.old.state outcome.1 (texts_of T.directory_of T.rules_of outcome.0) }
-        ensures prescribed { (limits : Limits) → outcome.2 ≡ (setup_of T.reads T.release_of T.inside T.takes limits).release_of (texts_of T.directory_of T.rules_of outcome.0) outcome.1 }
-        ensures adds { (limits : Limits) (h : List Entry) → IsReady (setup_of T.reads T.release_of T.inside T.takes limits) (P.state plant.old) self.old h →
-            OnOk result (Adds (setup_of T.reads T.release_of T.inside T.takes limits) (P.state plant.new) self.new h (entries.Categorised outcome.1.number outcome.1.release outcome.2 ∷ [])) }
-        ensures declines { (limits : Limits) (h : List Entry) → IsReady (setup_of T.reads T.release_of T.inside T.takes limits) (P.state plant.old) self.old h →
-            IfErr result (λ e. (e ≡ HubFault.DiskFault) ⊎ Declined (setup_of T.reads T.release_of T.inside T.takes limits) (P.state plant.new) self.new h (entries.Categorised outcome.1.number outcome.1.release outcome.2 ∷ []) e) }
+        requires { IsWaiting self.old.state outcome.input (texts_of T.means outcome.org) }
+        ensures prescribed { (limits : Limits) → outcome.release ≡ (setup_of T.means limits).release_of (texts_of T.means outcome.org) outcome.input }
+        ensures adds { (limits : Limits) (h : List Entry) → IsReady (setup_of T.means limits) (P.state plant.old) self.old h →
+            OnOk result (Adds (setup_of T.means limits) (P.state plant.new) self.new h (entries.Categorised outcome.input.number outcome.input.release outcome.release ∷ [])) }
+        ensures declines { (limits : Limits) (h : List Entry) → IsReady (setup_of T.means limits) (P.state plant.old) self.old h →
+            IfErr result (λ e. (e ≡ HubFault.DiskFault) ⊎ Declined (setup_of T.means limits) (P.state plant.new) self.new h (entries.Categorised outcome.input.number outcome.input.release outcome.release ∷ []) e) }
         ensures open { self.old.broken ≡ false → IsOk result → self.new.broken ≡ false }
         ensures shelf { IsTrue (P.state plant.old).honest → (P.state plant.new).image.shelf ≡ (P.state plant.old).image.shelf }
         ensures stays { Stays (P.state plant.old) (P.state plant.new) }
@@ -208,8 +208,8 @@ impl<T: Planner> Hub<T> {
 
 // The release of an outcome is the one that is prescribed for its input, by its organisation's texts. The call does nothing.
 fn prescribed_release<T: Planner>(outcome: &Outcome<T>)
-    ensures value { (limits : Limits) → outcome.now.2 ≡ (setup_of T.reads T.release_of T.inside T.takes limits).release_of (texts_of T.directory_of T.rules_of outcome.now.0) outcome.now.1 }
-    ensures form { is_release outcome.now.1.number outcome.now.1.release outcome.now.2 ≡ true }
+    ensures value { (limits : Limits) → outcome.now.release ≡ (setup_of T.means limits).release_of (texts_of T.means outcome.now.org) outcome.now.input }
+    ensures form { is_release outcome.now.input.number outcome.now.input.release outcome.now.release ≡ true }
 {
     let _texts = T::texts(outcome.org());
     let _release = outcome.release();

@@ -53,7 +53,7 @@ impl<T: Planner> State<T> {
         verdict: Verdict,
         moment: u64,
     ) -> Result<(), StepFault>
-        ensures { Applies (setup_of T.reads T.release_of T.inside T.takes self.old.limits) self.old (Entry.Decided name.now by.now verdict moment) result self.new }
+        ensures { Applies (setup_of T.means self.old.limits) self.old (Entry.Decided name.now by.now verdict moment) result self.new }
     {
         if !self.is_moment(moment) || !self.takes(name, by, verdict, moment) {
             return Err(StepFault::NotLawful);
@@ -84,7 +84,7 @@ impl<T: Planner> State<T> {
     ) -> Result<(), StepFault>
         requires taken { is_taken (decision_of self.old name.now by.now Verdict.Approve moment) ≡ true }
         requires moment { is_moment self.old moment ≡ true }
-        ensures { Applies (setup_of T.reads T.release_of T.inside T.takes self.old.limits) self.old (Entry.Decided name.now by.now Verdict.Approve moment) result self.new }
+        ensures { Applies (setup_of T.means self.old.limits) self.old (Entry.Decided name.now by.now Verdict.Approve moment) result self.new }
     {
         let place = (name.submission - 1) as usize;
         self.live
@@ -104,7 +104,7 @@ impl<T: Planner> State<T> {
     ) -> Result<(), StepFault>
         requires taken { is_taken (decision_of self.old name.now by.now Verdict.Reject moment) ≡ true }
         requires moment { is_moment self.old moment ≡ true }
-        ensures { Applies (setup_of T.reads T.release_of T.inside T.takes self.old.limits) self.old (Entry.Decided name.now by.now Verdict.Reject moment) result self.new }
+        ensures { Applies (setup_of T.means self.old.limits) self.old (Entry.Decided name.now by.now Verdict.Reject moment) result self.new }
     {
         let place = (name.submission - 1) as usize;
         let mut told = refused_told(alloc, self.live.as_slice(), place, name, by, moment).map_err(
@@ -120,7 +120,7 @@ impl<T: Planner> State<T> {
 
     // A turn began: approvals at or past their deadline end.
     pub(super) fn turn(&mut self, alloc: Global, moment: u64) -> Result<(), StepFault>
-        ensures { Applies (setup_of T.reads T.release_of T.inside T.takes self.old.limits) self.old (Entry.Moment moment) result self.new }
+        ensures { Applies (setup_of T.means self.old.limits) self.old (Entry.Moment moment) result self.new }
     {
         if !self.is_moment(moment) {
             return Err(StepFault::NotLawful);

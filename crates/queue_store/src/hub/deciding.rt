@@ -35,11 +35,11 @@ impl<T: Planner> Hub<T> {
         clock: u64,
     ) -> Result<Decision, HubFault>
         ensures decision { IfOk result (IsDecision self.old.state approval.now by.now verdict clock) }
-        ensures adds { (limits : Limits) (h : List Entry) → IsReady (setup_of T.reads T.release_of T.inside T.takes limits) (P.state plant.old) self.old h →
-            OnOk result (Adds (setup_of T.reads T.release_of T.inside T.takes limits) (P.state plant.new) self.new h (entries_decide self.old.state approval.now by.now verdict clock)) }
-        ensures declines { (limits : Limits) (h : List Entry) → IsReady (setup_of T.reads T.release_of T.inside T.takes limits) (P.state plant.old) self.old h →
+        ensures adds { (limits : Limits) (h : List Entry) → IsReady (setup_of T.means limits) (P.state plant.old) self.old h →
+            OnOk result (Adds (setup_of T.means limits) (P.state plant.new) self.new h (entries_decide self.old.state approval.now by.now verdict clock)) }
+        ensures declines { (limits : Limits) (h : List Entry) → IsReady (setup_of T.means limits) (P.state plant.old) self.old h →
             IfErr result (λ e. (e ≡ HubFault.DiskFault)
-            ⊎ RefusesDecision (setup_of T.reads T.release_of T.inside T.takes limits) (P.state plant.new) self.new h self.old.state approval.now by.now verdict clock e) }
+            ⊎ RefusesDecision (setup_of T.means limits) (P.state plant.new) self.new h self.old.state approval.now by.now verdict clock e) }
         ensures open { self.old.broken ≡ false → IsOk result → self.new.broken ≡ false }
         ensures shelf { IsTrue (P.state plant.old).honest → (P.state plant.new).image.shelf ≡ (P.state plant.old).image.shelf }
         ensures stays { Stays (P.state plant.old) (P.state plant.new) }
@@ -70,10 +70,10 @@ impl<T: Planner> Hub<T> {
         clock: u64,
     ) -> Result<(), HubFault>
         requires { is_taken (decision_of self.old.state approval.now by.now verdict (now_of self.old.state clock)) ≡ true }
-        ensures adds { (limits : Limits) (h : List Entry) → IsReady (setup_of T.reads T.release_of T.inside T.takes limits) (P.state plant.old) self.old h →
-            OnOk result (Adds (setup_of T.reads T.release_of T.inside T.takes limits) (P.state plant.new) self.new h (entries.Decided approval.now by.now verdict (now_of self.old.state clock) ∷ [])) }
-        ensures declines { (limits : Limits) (h : List Entry) → IsReady (setup_of T.reads T.release_of T.inside T.takes limits) (P.state plant.old) self.old h →
-            IfErr result (λ e. (e ≡ HubFault.DiskFault) ⊎ Declined (setup_of T.reads T.release_of T.inside T.takes limits) (P.state plant.new) self.new h (entries.Decided approval.now by.now verdict (now_of self.old.state clock) ∷ []) e) }
+        ensures adds { (limits : Limits) (h : List Entry) → IsReady (setup_of T.means limits) (P.state plant.old) self.old h →
+            OnOk result (Adds (setup_of T.means limits) (P.state plant.new) self.new h (entries.Decided approval.now by.now verdict (now_of self.old.state clock) ∷ [])) }
+        ensures declines { (limits : Limits) (h : List Entry) → IsReady (setup_of T.means limits) (P.state plant.old) self.old h →
+            IfErr result (λ e. (e ≡ HubFault.DiskFault) ⊎ Declined (setup_of T.means limits) (P.state plant.new) self.new h (entries.Decided approval.now by.now verdict (now_of self.old.state clock) ∷ []) e) }
         ensures open { self.old.broken ≡ false → IsOk result → self.new.broken ≡ false }
         ensures shelf { IsTrue (P.state plant.old).honest → (P.state plant.new).image.shelf ≡ (P.state plant.old).image.shelf }
         ensures stays { Stays (P.state plant.old) (P.state plant.new) }
@@ -107,11 +107,11 @@ impl<T: Planner> Hub<T> {
         clock: u64,
     ) -> Result<Decision, HubFault>
         ensures decision { self.old.broken ≡ false → IfOk result (IsDecision self.old.state approval.now by.now verdict clock) }
-        ensures adds { (limits : Limits) (h : List Entry) → IsReady (setup_of T.reads T.release_of T.inside T.takes limits) (P.state plant.old) self.old h →
-            OnOk result (Adds (setup_of T.reads T.release_of T.inside T.takes limits) (P.state plant.new) self.new h (entries_decide self.old.state approval.now by.now verdict clock)) }
-        ensures declines { (limits : Limits) (h : List Entry) → IsReady (setup_of T.reads T.release_of T.inside T.takes limits) (P.state plant.old) self.old h →
+        ensures adds { (limits : Limits) (h : List Entry) → IsReady (setup_of T.means limits) (P.state plant.old) self.old h →
+            OnOk result (Adds (setup_of T.means limits) (P.state plant.new) self.new h (entries_decide self.old.state approval.now by.now verdict clock)) }
+        ensures declines { (limits : Limits) (h : List Entry) → IsReady (setup_of T.means limits) (P.state plant.old) self.old h →
             IfErr result (λ e. (e ≡ HubFault.DiskFault)
-            ⊎ RefusesDecision (setup_of T.reads T.release_of T.inside T.takes limits) (P.state plant.new) self.new h self.old.state approval.now by.now verdict clock e) }
+            ⊎ RefusesDecision (setup_of T.means limits) (P.state plant.new) self.new h self.old.state approval.now by.now verdict clock e) }
         ensures open { IsOk result → self.new.broken ≡ false }
         ensures shelf { IsTrue (P.state plant.old).honest → (P.state plant.new).image.shelf ≡ (P.state plant.old).image.shelf }
         ensures stays { Stays (P.state plant.old) (P.state plant.new) }

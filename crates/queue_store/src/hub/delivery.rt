@@ -28,10 +28,10 @@ impl<T: Planner> Hub<T> {
         plant: &mut P,
         name: &TaskName,
     ) -> Result<(), HubFault>
-        ensures adds { (limits : Limits) (h : List Entry) → IsReady (setup_of T.reads T.release_of T.inside T.takes limits) (P.state plant.old) self.old h →
-            OnOk result (Adds (setup_of T.reads T.release_of T.inside T.takes limits) (P.state plant.new) self.new h (entries_at (setup_of T.reads T.release_of T.inside T.takes limits) self.old.state name.now)) }
-        ensures declines { (limits : Limits) (h : List Entry) → IsReady (setup_of T.reads T.release_of T.inside T.takes limits) (P.state plant.old) self.old h →
-            IfErr result (λ e. (e ≡ HubFault.DiskFault) ⊎ Declined (setup_of T.reads T.release_of T.inside T.takes limits) (P.state plant.new) self.new h (entries_at (setup_of T.reads T.release_of T.inside T.takes limits) self.old.state name.now) e) }
+        ensures adds { (limits : Limits) (h : List Entry) → IsReady (setup_of T.means limits) (P.state plant.old) self.old h →
+            OnOk result (Adds (setup_of T.means limits) (P.state plant.new) self.new h (entries_at (setup_of T.means limits) self.old.state name.now)) }
+        ensures declines { (limits : Limits) (h : List Entry) → IsReady (setup_of T.means limits) (P.state plant.old) self.old h →
+            IfErr result (λ e. (e ≡ HubFault.DiskFault) ⊎ Declined (setup_of T.means limits) (P.state plant.new) self.new h (entries_at (setup_of T.means limits) self.old.state name.now) e) }
         ensures stays { Stays (P.state plant.old) (P.state plant.new) }
         ensures cause { IsErrOf result HubFault.DiskFault → Rose (P.state plant.old).disk_faults (P.state plant.new).disk_faults }
     {
@@ -80,10 +80,10 @@ impl<T: Planner> Hub<T> {
         plant: &mut P,
         names: &[TaskName],
     ) -> Result<(), HubFault>
-        ensures adds { (limits : Limits) (h : List Entry) → IsReady (setup_of T.reads T.release_of T.inside T.takes limits) (P.state plant.old) self.old h →
-            OnOk result (Adds (setup_of T.reads T.release_of T.inside T.takes limits) (P.state plant.new) self.new h (entries_all (setup_of T.reads T.release_of T.inside T.takes limits) self.old.state names.now)) }
-        ensures stops { (limits : Limits) (h : List Entry) → IsReady (setup_of T.reads T.release_of T.inside T.takes limits) (P.state plant.old) self.old h →
-            IfErr result (λ e. (e ≡ HubFault.DiskFault) ⊎ Stops (setup_of T.reads T.release_of T.inside T.takes limits) (P.state plant.new) self.new h (entries_all (setup_of T.reads T.release_of T.inside T.takes limits) self.old.state names.now) e) }
+        ensures adds { (limits : Limits) (h : List Entry) → IsReady (setup_of T.means limits) (P.state plant.old) self.old h →
+            OnOk result (Adds (setup_of T.means limits) (P.state plant.new) self.new h (entries_all (setup_of T.means limits) self.old.state names.now)) }
+        ensures stops { (limits : Limits) (h : List Entry) → IsReady (setup_of T.means limits) (P.state plant.old) self.old h →
+            IfErr result (λ e. (e ≡ HubFault.DiskFault) ⊎ Stops (setup_of T.means limits) (P.state plant.new) self.new h (entries_all (setup_of T.means limits) self.old.state names.now) e) }
         ensures stays { Stays (P.state plant.old) (P.state plant.new) }
         ensures cause { IsErrOf result HubFault.DiskFault → Rose (P.state plant.old).disk_faults (P.state plant.new).disk_faults }
     {
@@ -98,10 +98,10 @@ impl<T: Planner> Hub<T> {
 
     /// Categorises each release that waits, by submission and release.
     pub fn categorise_all<P: Plant>(&mut self, alloc: Global, plant: &mut P) -> Result<(), HubFault>
-        ensures adds { (limits : Limits) (h : List Entry) → IsReady (setup_of T.reads T.release_of T.inside T.takes limits) (P.state plant.old) self.old h →
-            OnOk result (Adds (setup_of T.reads T.release_of T.inside T.takes limits) (P.state plant.new) self.new h (entries_categorise (setup_of T.reads T.release_of T.inside T.takes limits) self.old.state)) }
-        ensures stops { (limits : Limits) (h : List Entry) → IsReady (setup_of T.reads T.release_of T.inside T.takes limits) (P.state plant.old) self.old h →
-            IfErr result (λ e. (e ≡ HubFault.DiskFault) ⊎ Stops (setup_of T.reads T.release_of T.inside T.takes limits) (P.state plant.new) self.new h (entries_categorise (setup_of T.reads T.release_of T.inside T.takes limits) self.old.state) e) }
+        ensures adds { (limits : Limits) (h : List Entry) → IsReady (setup_of T.means limits) (P.state plant.old) self.old h →
+            OnOk result (Adds (setup_of T.means limits) (P.state plant.new) self.new h (entries_categorise (setup_of T.means limits) self.old.state)) }
+        ensures stops { (limits : Limits) (h : List Entry) → IsReady (setup_of T.means limits) (P.state plant.old) self.old h →
+            IfErr result (λ e. (e ≡ HubFault.DiskFault) ⊎ Stops (setup_of T.means limits) (P.state plant.new) self.new h (entries_categorise (setup_of T.means limits) self.old.state) e) }
         ensures stays { Stays (P.state plant.old) (P.state plant.new) }
         ensures cause { IsErrOf result HubFault.DiskFault → Rose (P.state plant.old).disk_faults (P.state plant.new).disk_faults }
     {
@@ -166,12 +166,12 @@ impl<T: Planner> Hub<T> {
         clock: u64,
     ) -> Result<(), HubFault>
         requires { (nat_lt 0 (length self.old.state.waiting) || any_pends self.old.state) ≡ true }
-        ensures adds { (limits : Limits) (h : List Entry) → IsReady (setup_of T.reads T.release_of T.inside T.takes limits) (P.state plant.old) self.old h → OnOk result ((puts : List Bool)
-            × Adds (setup_of T.reads T.release_of T.inside T.takes limits) (P.state plant.new) self.new h (entries_turn (setup_of T.reads T.release_of T.inside T.takes limits) self.old.state clock puts)
+        ensures adds { (limits : Limits) (h : List Entry) → IsReady (setup_of T.means limits) (P.state plant.old) self.old h → OnOk result ((puts : List Bool)
+            × Adds (setup_of T.means limits) (P.state plant.new) self.new h (entries_turn (setup_of T.means limits) self.old.state clock puts)
             × RoseBy (misses puts) (P.state plant.old).shelf_faults (P.state plant.new).shelf_faults) }
-        ensures stops { (limits : Limits) (h : List Entry) → IsReady (setup_of T.reads T.release_of T.inside T.takes limits) (P.state plant.old) self.old h →
+        ensures stops { (limits : Limits) (h : List Entry) → IsReady (setup_of T.means limits) (P.state plant.old) self.old h →
             IfErr result (λ e. (e ≡ HubFault.DiskFault) ⊎ ((puts : List Bool)
-            × Stops (setup_of T.reads T.release_of T.inside T.takes limits) (P.state plant.new) self.new h (entries_turn (setup_of T.reads T.release_of T.inside T.takes limits) self.old.state clock puts) e
+            × Stops (setup_of T.means limits) (P.state plant.new) self.new h (entries_turn (setup_of T.means limits) self.old.state clock puts) e
             × RoseBy (misses puts) (P.state plant.old).shelf_faults (P.state plant.new).shelf_faults)) }
         ensures stays { Stays (P.state plant.old) (P.state plant.new) }
         ensures cause { IsErrOf result HubFault.DiskFault → Rose (P.state plant.old).disk_faults (P.state plant.new).disk_faults }
@@ -191,12 +191,12 @@ impl<T: Planner> Hub<T> {
         plant: &mut P,
         clock: u64,
     ) -> Result<(), HubFault>
-        ensures adds { (limits : Limits) (h : List Entry) → IsReady (setup_of T.reads T.release_of T.inside T.takes limits) (P.state plant.old) self.old h → OnOk result ((puts : List Bool)
-            × Adds (setup_of T.reads T.release_of T.inside T.takes limits) (P.state plant.new) self.new h (entries_turn (setup_of T.reads T.release_of T.inside T.takes limits) self.old.state clock puts)
+        ensures adds { (limits : Limits) (h : List Entry) → IsReady (setup_of T.means limits) (P.state plant.old) self.old h → OnOk result ((puts : List Bool)
+            × Adds (setup_of T.means limits) (P.state plant.new) self.new h (entries_turn (setup_of T.means limits) self.old.state clock puts)
             × RoseBy (misses puts) (P.state plant.old).shelf_faults (P.state plant.new).shelf_faults) }
-        ensures stops { (limits : Limits) (h : List Entry) → IsReady (setup_of T.reads T.release_of T.inside T.takes limits) (P.state plant.old) self.old h →
+        ensures stops { (limits : Limits) (h : List Entry) → IsReady (setup_of T.means limits) (P.state plant.old) self.old h →
             IfErr result (λ e. (e ≡ HubFault.DiskFault) ⊎ ((puts : List Bool)
-            × Stops (setup_of T.reads T.release_of T.inside T.takes limits) (P.state plant.new) self.new h (entries_turn (setup_of T.reads T.release_of T.inside T.takes limits) self.old.state clock puts) e
+            × Stops (setup_of T.means limits) (P.state plant.new) self.new h (entries_turn (setup_of T.means limits) self.old.state clock puts) e
             × RoseBy (misses puts) (P.state plant.old).shelf_faults (P.state plant.new).shelf_faults)) }
         ensures stays { Stays (P.state plant.old) (P.state plant.new) }
         ensures cause { IsErrOf result HubFault.DiskFault → Rose (P.state plant.old).disk_faults (P.state plant.new).disk_faults }

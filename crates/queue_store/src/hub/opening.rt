@@ -32,11 +32,11 @@ impl<T: Planner> Hub<T> {
         plant: &mut P,
         limits: Limits,
     ) -> Result<Hub<T>, HubFault>
-        ensures ready { (h : List Entry) → IsTrue (P.state plant.old).honest → Stands (setup_of T.reads T.release_of T.inside T.takes limits) (P.state plant.old).image h →
-            IfOk result (λ hub. IsReady (setup_of T.reads T.release_of T.inside T.takes limits) (P.state plant.new) hub h) }
-        ensures never { (h : List Entry) → IsTrue (P.state plant.old).honest → IsHistory (setup_of T.reads T.release_of T.inside T.takes limits) h → FileOf (P.state plant.old).image.file h →
+        ensures ready { (h : List Entry) → IsTrue (P.state plant.old).honest → Stands (setup_of T.means limits) (P.state plant.old).image h →
+            IfOk result (λ hub. IsReady (setup_of T.means limits) (P.state plant.new) hub h) }
+        ensures never { (h : List Entry) → IsTrue (P.state plant.old).honest → IsHistory (setup_of T.means limits) h → FileOf (P.state plant.old).image.file h →
             IfErr result (λ e. (e ≡ HubFault.DiskFault) ⊎ (e ≡ HubFault.NoMemory)) }
-        ensures bad { IsTrue (P.state plant.old).honest → IfErr result (λ e. OpenFault (setup_of T.reads T.release_of T.inside T.takes limits) (P.state plant.old).image.file e) }
+        ensures bad { IsTrue (P.state plant.old).honest → IfErr result (λ e. OpenFault (setup_of T.means limits) (P.state plant.old).image.file e) }
         ensures open { IfOk result (λ hub. hub.broken ≡ false) }
         ensures shelf { IsTrue (P.state plant.old).honest → (P.state plant.new).image.shelf ≡ (P.state plant.old).image.shelf }
         ensures stays { Stays (P.state plant.old) (P.state plant.new) }
@@ -59,9 +59,9 @@ fn go_on<T: Planner>(
     entry: Entry,
     gate: u64,
 ) -> Result<(), HubFault>
-    ensures goes { OnOk result (state.new ≡ state_after (setup_of T.reads T.release_of T.inside T.takes state.old.limits) state.old entry) }
-    ensures lawful_alone { (limits : Limits) → OnOk result (is_lawful (setup_of T.reads T.release_of T.inside T.takes limits) state.old entry ≡ true) }
-    ensures lawful { (limits : Limits) → is_lawful (setup_of T.reads T.release_of T.inside T.takes limits) state.old entry ≡ true → IfErr result (λ e. e ≡ HubFault.NoMemory) }
+    ensures goes { OnOk result (state.new ≡ state_after (setup_of T.means state.old.limits) state.old entry) }
+    ensures lawful_alone { (limits : Limits) → OnOk result (is_lawful (setup_of T.means limits) state.old entry ≡ true) }
+    ensures lawful { (limits : Limits) → is_lawful (setup_of T.means limits) state.old entry ≡ true → IfErr result (λ e. e ≡ HubFault.NoMemory) }
     ensures only { IfErr result (λ e. (e ≡ HubFault.NoMemory) ⊎ (e ≡ HubFault.NotALog gate)) }
 {
     match state.apply(alloc, entry) {
@@ -83,13 +83,13 @@ fn replay<P: Plant, T: Planner>(
     ensures reads { IsTrue (P.state plant.old).honest → Reads (P.state plant.old) (P.state plant.new) }
     ensures most { log.new.most ≡ log.old.most }
     ensures state { (h : List Entry) → IsTrue (P.state plant.old).honest → IsRead (P.state plant.old).image.file h [] log.old →
-        IfOk result (λ state. state ≡ standing (setup_of T.reads T.release_of T.inside T.takes limits) h) }
+        IfOk result (λ state. state ≡ standing (setup_of T.means limits) h) }
     ensures end { (h : List Entry) → IsTrue (P.state plant.old).honest → IsRead (P.state plant.old).image.file h [] log.old →
         OnOk result (log.new.place ≡ length (log_of h)) }
-    ensures never { (h : List Entry) → IsTrue (P.state plant.old).honest → IsHistory (setup_of T.reads T.release_of T.inside T.takes limits) h → IsRead (P.state plant.old).image.file h [] log.old →
+    ensures never { (h : List Entry) → IsTrue (P.state plant.old).honest → IsHistory (setup_of T.means limits) h → IsRead (P.state plant.old).image.file h [] log.old →
         IfErr result (λ e. (e ≡ HubFault.DiskFault) ⊎ (e ≡ HubFault.NoMemory)) }
     ensures bad { IsTrue (P.state plant.old).honest → IsHeld (P.state plant.old).image.file log.old → Begins (P.state plant.old).image.file [] log.old.place →
-        IfErr result (λ e. OpenFault (setup_of T.reads T.release_of T.inside T.takes limits) (P.state plant.old).image.file e) }
+        IfErr result (λ e. OpenFault (setup_of T.means limits) (P.state plant.old).image.file e) }
 {
     let mut state = State::start(alloc, limits)?;
     while let Some(entry) = log.next(alloc, plant)? {

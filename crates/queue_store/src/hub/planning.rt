@@ -33,12 +33,12 @@ impl<T: Planner> Hub<T> {
         directory: Bytes,
         rules: Bytes,
     ) -> Result<u32, HubFault>
-        ensures epoch { IfOk result (IsInForce (setup_of T.reads T.release_of T.inside T.takes self.old.state.limits) self.old.state (record { directory = directory; rules = rules })) }
-        ensures adds { (limits : Limits) (h : List Entry) → IsReady (setup_of T.reads T.release_of T.inside T.takes limits) (P.state plant.old) self.old h →
-            OnOk result (Adds (setup_of T.reads T.release_of T.inside T.takes limits) (P.state plant.new) self.new h (entries_organise (setup_of T.reads T.release_of T.inside T.takes limits) self.old.state (record { directory = directory; rules = rules }))) }
-        ensures declines { (limits : Limits) (h : List Entry) → IsReady (setup_of T.reads T.release_of T.inside T.takes limits) (P.state plant.old) self.old h →
+        ensures epoch { IfOk result (IsInForce (setup_of T.means self.old.state.limits) self.old.state (record { directory = directory; rules = rules })) }
+        ensures adds { (limits : Limits) (h : List Entry) → IsReady (setup_of T.means limits) (P.state plant.old) self.old h →
+            OnOk result (Adds (setup_of T.means limits) (P.state plant.new) self.new h (entries_organise (setup_of T.means limits) self.old.state (record { directory = directory; rules = rules }))) }
+        ensures declines { (limits : Limits) (h : List Entry) → IsReady (setup_of T.means limits) (P.state plant.old) self.old h →
             IfErr result (λ e. (e ≡ HubFault.DiskFault)
-            ⊎ RefusesOrg (setup_of T.reads T.release_of T.inside T.takes limits) (P.state plant.new) self.new h self.old.state (record { directory = directory; rules = rules }) e) }
+            ⊎ RefusesOrg (setup_of T.means limits) (P.state plant.new) self.new h self.old.state (record { directory = directory; rules = rules }) e) }
         ensures open { self.old.broken ≡ false → IsOk result → self.new.broken ≡ false }
         ensures shelf { IsTrue (P.state plant.old).honest → (P.state plant.new).image.shelf ≡ (P.state plant.old).image.shelf }
         ensures stays { Stays (P.state plant.old) (P.state plant.new) }
@@ -73,12 +73,12 @@ impl<T: Planner> Hub<T> {
         directory: Option<Bytes>,
         rules: Option<Bytes>,
     ) -> Result<u32, HubFault>
-        ensures epoch { IfOk result (IsInForce (setup_of T.reads T.release_of T.inside T.takes self.old.state.limits) self.old.state (texts_asked self.old.state directory rules)) }
-        ensures adds { (limits : Limits) (h : List Entry) → IsReady (setup_of T.reads T.release_of T.inside T.takes limits) (P.state plant.old) self.old h →
-            OnOk result (Adds (setup_of T.reads T.release_of T.inside T.takes limits) (P.state plant.new) self.new h (entries_organise (setup_of T.reads T.release_of T.inside T.takes limits) self.old.state (texts_asked self.old.state directory rules))) }
-        ensures declines { (limits : Limits) (h : List Entry) → IsReady (setup_of T.reads T.release_of T.inside T.takes limits) (P.state plant.old) self.old h →
+        ensures epoch { IfOk result (IsInForce (setup_of T.means self.old.state.limits) self.old.state (texts_asked self.old.state directory rules)) }
+        ensures adds { (limits : Limits) (h : List Entry) → IsReady (setup_of T.means limits) (P.state plant.old) self.old h →
+            OnOk result (Adds (setup_of T.means limits) (P.state plant.new) self.new h (entries_organise (setup_of T.means limits) self.old.state (texts_asked self.old.state directory rules))) }
+        ensures declines { (limits : Limits) (h : List Entry) → IsReady (setup_of T.means limits) (P.state plant.old) self.old h →
             IfErr result (λ e. (e ≡ HubFault.DiskFault)
-            ⊎ RefusesOrg (setup_of T.reads T.release_of T.inside T.takes limits) (P.state plant.new) self.new h self.old.state (texts_asked self.old.state directory rules) e) }
+            ⊎ RefusesOrg (setup_of T.means limits) (P.state plant.new) self.new h self.old.state (texts_asked self.old.state directory rules) e) }
         ensures open { self.old.broken ≡ false → IsOk result → self.new.broken ≡ false }
         ensures shelf { IsTrue (P.state plant.old).honest → (P.state plant.new).image.shelf ≡ (P.state plant.old).image.shelf }
         ensures stays { Stays (P.state plant.old) (P.state plant.new) }
@@ -107,12 +107,12 @@ impl<T: Planner> Hub<T> {
         directory: Option<Bytes>,
         rules: Option<Bytes>,
     ) -> Result<u32, HubFault>
-        ensures epoch { self.old.broken ≡ false → IfOk result (IsInForce (setup_of T.reads T.release_of T.inside T.takes self.old.state.limits) self.old.state (texts_asked self.old.state directory rules)) }
-        ensures adds { (limits : Limits) (h : List Entry) → IsReady (setup_of T.reads T.release_of T.inside T.takes limits) (P.state plant.old) self.old h →
-            OnOk result (Adds (setup_of T.reads T.release_of T.inside T.takes limits) (P.state plant.new) self.new h (entries_organise (setup_of T.reads T.release_of T.inside T.takes limits) self.old.state (texts_asked self.old.state directory rules))) }
-        ensures declines { (limits : Limits) (h : List Entry) → IsReady (setup_of T.reads T.release_of T.inside T.takes limits) (P.state plant.old) self.old h →
+        ensures epoch { self.old.broken ≡ false → IfOk result (IsInForce (setup_of T.means self.old.state.limits) self.old.state (texts_asked self.old.state directory rules)) }
+        ensures adds { (limits : Limits) (h : List Entry) → IsReady (setup_of T.means limits) (P.state plant.old) self.old h →
+            OnOk result (Adds (setup_of T.means limits) (P.state plant.new) self.new h (entries_organise (setup_of T.means limits) self.old.state (texts_asked self.old.state directory rules))) }
+        ensures declines { (limits : Limits) (h : List Entry) → IsReady (setup_of T.means limits) (P.state plant.old) self.old h →
             IfErr result (λ e. (e ≡ HubFault.DiskFault)
-            ⊎ RefusesOrg (setup_of T.reads T.release_of T.inside T.takes limits) (P.state plant.new) self.new h self.old.state (texts_asked self.old.state directory rules) e) }
+            ⊎ RefusesOrg (setup_of T.means limits) (P.state plant.new) self.new h self.old.state (texts_asked self.old.state directory rules) e) }
         ensures open { IsOk result → self.new.broken ≡ false }
         ensures shelf { IsTrue (P.state plant.old).honest → (P.state plant.new).image.shelf ≡ (P.state plant.old).image.shelf }
         ensures stays { Stays (P.state plant.old) (P.state plant.new) }
@@ -134,7 +134,7 @@ impl<T: Planner> Hub<T> {
         requires { residue < workers }
         ensures first { self.old.broken ≡ false → IfOk result (λ task. option_map (λ (t : _). task_name t.input) task ≡ first_task residue workers 1 self.old.state.live) }
         ensures made { self.old.broken ≡ false → IfOk result (λ task. IfSome task (λ t. IfSome (mail_of self.old.state t.input.number)
-            (λ mail. IsTask t.input.number mail t.input (texts_of T.directory_of T.rules_of (arc_value t.org))))) }
+            (λ mail. IsTask t.input.number mail t.input (texts_of T.means (arc_value t.org))))) }
         ensures kept { (setup : Setup) (h : List Entry) → IsReady setup (P.state plant.old) self.old h → IsReady setup (P.state plant.new) self.new h }
         ensures refused { self.old.broken ≡ false → IfErr result (λ e. e ≡ HubFault.NoMemory) }
         ensures open { IsOk result → self.new.broken ≡ false }
@@ -155,12 +155,12 @@ impl<T: Planner> Hub<T> {
         plant: &mut P,
         outcome: Outcome<T>,
     ) -> Result<CommitEnd, HubFault>
-        ensures end { IfOk result (λ end. reply_of_end end ≡ reply_commit self.old.state outcome.1 (texts_of T.directory_of T.rules_of outcome.0)) }
-        ensures adds { (limits : Limits) (h : List Entry) → IsReady (setup_of T.reads T.release_of T.inside T.takes limits) (P.state plant.old) self.old h →
-            OnOk result (Adds (setup_of T.reads T.release_of T.inside T.takes limits) (P.state plant.new) self.new h (entries_commit self.old.state outcome.1 (texts_of T.directory_of T.rules_of outcome.0) outcome.2)) }
-        ensures declines { (limits : Limits) (h : List Entry) → IsReady (setup_of T.reads T.release_of T.inside T.takes limits) (P.state plant.old) self.old h →
+        ensures end { IfOk result (λ end. reply_of_end end ≡ reply_commit self.old.state outcome.input (texts_of T.means outcome.org)) }
+        ensures adds { (limits : Limits) (h : List Entry) → IsReady (setup_of T.means limits) (P.state plant.old) self.old h →
+            OnOk result (Adds (setup_of T.means limits) (P.state plant.new) self.new h (entries_commit self.old.state outcome.input (texts_of T.means outcome.org) outcome.release)) }
+        ensures declines { (limits : Limits) (h : List Entry) → IsReady (setup_of T.means limits) (P.state plant.old) self.old h →
             IfErr result (λ e. (e ≡ HubFault.DiskFault)
-            ⊎ Declined (setup_of T.reads T.release_of T.inside T.takes limits) (P.state plant.new) self.new h (entries_commit self.old.state outcome.1 (texts_of T.directory_of T.rules_of outcome.0) outcome.2) e) }
+            ⊎ Declined (setup_of T.means limits) (P.state plant.new) self.new h (entries_commit self.old.state outcome.input (texts_of T.means outcome.org) outcome.release) e) }
         ensures open { self.old.broken ≡ false → IsOk result → self.new.broken ≡ false }
         ensures shelf { IsTrue (P.state plant.old).honest → (P.state plant.new).image.shelf ≡ (P.state plant.old).image.shelf }
         ensures stays { Stays (P.state plant.old) (P.state plant.new) }
@@ -190,14 +190,14 @@ impl<T: Planner> Hub<T> {
         outcome: Outcome<T>,
     ) -> Result<CommitEnd, HubFault>
         ensures end { self.old.broken ≡ false →
-            IfOk result (λ end. reply_of_end end ≡ reply_commit self.old.state outcome.1 (texts_of T.directory_of T.rules_of outcome.0)) }
-        ensures adds { (limits : Limits) (h : List Entry) → IsReady (setup_of T.reads T.release_of T.inside T.takes limits) (P.state plant.old) self.old h →
-            OnOk result (Adds (setup_of T.reads T.release_of T.inside T.takes limits) (P.state plant.new) self.new h (entries_commit self.old.state outcome.1 (texts_of T.directory_of T.rules_of outcome.0) outcome.2)) }
-        ensures declines { (limits : Limits) (h : List Entry) → IsReady (setup_of T.reads T.release_of T.inside T.takes limits) (P.state plant.old) self.old h →
+            IfOk result (λ end. reply_of_end end ≡ reply_commit self.old.state outcome.input (texts_of T.means outcome.org)) }
+        ensures adds { (limits : Limits) (h : List Entry) → IsReady (setup_of T.means limits) (P.state plant.old) self.old h →
+            OnOk result (Adds (setup_of T.means limits) (P.state plant.new) self.new h (entries_commit self.old.state outcome.input (texts_of T.means outcome.org) outcome.release)) }
+        ensures declines { (limits : Limits) (h : List Entry) → IsReady (setup_of T.means limits) (P.state plant.old) self.old h →
             IfErr result (λ e. (e ≡ HubFault.DiskFault)
-            ⊎ Declined (setup_of T.reads T.release_of T.inside T.takes limits) (P.state plant.new) self.new h (entries_commit self.old.state outcome.1 (texts_of T.directory_of T.rules_of outcome.0) outcome.2) e) }
-        ensures journal { (limits : Limits) (h : List Entry) → IsReady (setup_of T.reads T.release_of T.inside T.takes limits) (P.state plant.old) self.old h →
-            OnOk result (IsJournaled (setup_of T.reads T.release_of T.inside T.takes limits) (h ++ entries_commit self.old.state outcome.1 (texts_of T.directory_of T.rules_of outcome.0) outcome.2)) }
+            ⊎ Declined (setup_of T.means limits) (P.state plant.new) self.new h (entries_commit self.old.state outcome.input (texts_of T.means outcome.org) outcome.release) e) }
+        ensures journal { (limits : Limits) (h : List Entry) → IsReady (setup_of T.means limits) (P.state plant.old) self.old h →
+            OnOk result (IsJournaled (setup_of T.means limits) (h ++ entries_commit self.old.state outcome.input (texts_of T.means outcome.org) outcome.release)) }
         ensures open { IsOk result → self.new.broken ≡ false }
         ensures shelf { IsTrue (P.state plant.old).honest → (P.state plant.new).image.shelf ≡ (P.state plant.old).image.shelf }
         ensures stays { Stays (P.state plant.old) (P.state plant.new) }

@@ -6,5 +6,5 @@ use Rattle.hub_core.proofs.ending.all_told.Given as goal
 
 abbrev pub invariant-loop-place : goal.invariant-loop-place
 invariant-loop-place g l = (limits : Limits) →
-    l.told.items ++ all_told (setup_of g.T.Planner.reads g.T.Planner.release_of g.T.Planner.inside g.T.Planner.takes limits) l.moment (l.place + 1) (drop l.place l.lives)
-    ≡ all_told (setup_of g.T.Planner.reads g.T.Planner.release_of g.T.Planner.inside g.T.Planner.takes limits) l.moment 1 l.lives
+    l.told.items ++ all_told (setup_of g.T.Planner.means limits) l.moment (l.place + 1) (drop l.place l.lives)
+    ≡ all_told (setup_of g.T.Planner.means limits) l.moment 1 l.lives

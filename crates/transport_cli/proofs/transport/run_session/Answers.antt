@@ -2,9 +2,7 @@ use Rattle.std.proofs.Common.{◌∙◌, ap, inl, inr, arith, Err, sym, subst}
 use Rattle.hub_core.specs.declared.limits.Limits.{Limits}
 use Rattle.hub_core.specs.Setup.{setup_of}
 use Rattle.hub_core.specs.Items.{IsHistory}
-use Rattle.categorizer.specs.Organisation.{organisation_of}
-use Rattle.categorizer.specs.Releasing.{hub_release, takes}
-use Rattle.transport_cli.specs.HubSetup.{hub_inside}
+use Rattle.categorizer.specs.Meaning.{hub_means}
 use Rattle.queue_store.specs.Stands.{Stands}
 use Rattle.queue_store.specs.Ready.{IsReady}
 use Rattle.transport_cli.proofs.Never.{ran_never, memory≢log}
@@ -13,7 +11,7 @@ use Rattle.transport_cli.proofs.transport.run_session.Goals as goal
 
 pub returns-in-Err-clause-ran : goal.returns-in-Err-clause-ran
 returns-in-Err-clause-ran g c h honest stands quiet =
-    elim (c.in-Err.ensures.never h honest (subst (λ (l : Limits). IsHistory (setup_of organisation_of hub_release hub_inside takes l) h) (sym c.usual.ensures) stands.history) stands.file) [
+    elim (c.in-Err.ensures.never h honest (subst (λ (l : Limits). IsHistory (setup_of hub_means l) h) (sym c.usual.ensures) stands.history) stands.file) [
       | inl disk ↦ absurd (quiet (c.in-Err.ensures.cause (ap Err disk)))
       | inr memory ↦ inl (c.fault_status.ensures.memory memory)
     ]
@@ -27,8 +25,8 @@ returns-in-Ok-clause-ran g c h honest stands quiet =
     let second = talked.disk_faults in
     let third = followed.disk_faults in
     let image = (g.P.Plant.state c.args.plant.now).image in
-    let ready = subst (λ (l : Limits). IsReady (setup_of organisation_of hub_release hub_inside takes l) (g.P.Plant.state c.open_hub.new.plant) c.in-Ok.hub h) c.usual.ensures
-    (c.in-Ok.ensures.ready h honest (subst (λ (l : Limits). Stands (setup_of organisation_of hub_release hub_inside takes l) image h) (sym c.usual.ensures) stands)) in
+    let ready = subst (λ (l : Limits). IsReady (setup_of hub_means l) (g.P.Plant.state c.open_hub.new.plant) c.in-Ok.hub h) c.usual.ensures
+    (c.in-Ok.ensures.ready h honest (subst (λ (l : Limits). Stands (setup_of hub_means l) image h) (sym c.usual.ensures) stands)) in
     let talk = c.converse-end.ensures.spoke h ready (λ rose. quiet (rose_within _ _ _ _ first third rose)) in
     let rest = c.follow.ensures.ends talk.0 talk.2 (λ rose. quiet (rose_within _ _ _ _ (omega (arith, first, second)) (omega arith) rose)) in
     let shelf = opened.shelf_faults in
@@ -43,7 +41,7 @@ returns-in-Ok-clause-ran g c h honest stands quiet =
 
 pub returns-in-Err-clause-log : goal.returns-in-Err-clause-log
 returns-in-Err-clause-log g c h honest stands quiet is =
-    elim (c.in-Err.ensures.never h honest (subst (λ (l : Limits). IsHistory (setup_of organisation_of hub_release hub_inside takes l) h) (sym c.usual.ensures) stands.history) stands.file) [
+    elim (c.in-Err.ensures.never h honest (subst (λ (l : Limits). IsHistory (setup_of hub_means l) h) (sym c.usual.ensures) stands.history) stands.file) [
       | inl disk ↦ quiet (c.in-Err.ensures.cause (ap Err disk))
       | inr memory ↦ memory≢log (sym (c.fault_status.ensures.memory memory) ∙ is)
     ]

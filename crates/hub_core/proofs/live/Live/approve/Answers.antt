@@ -16,7 +16,7 @@ invariant_of-self-2 g c =
     let name = c.args.name.now in
     let by = c.args.by.now in
     let moment = c.args.moment in
-    let texts = texts_of g.T.Planner.directory_of g.T.Planner.rules_of in
+    let texts = texts_of g.T.Planner.means in
     let old : LiveMail = record { submission = arc_value it.submission; accepted_at = it.accepted_at; epoch = it.epoch; org = option_map (λ o. texts (arc_value o)) it.org; opened = it.opened.items; stages = it.stages.items } in
     let at : asking_at old name ≡ Some c.in-Some.asking.now = ap (λ (m : LiveMail). asking_at m name) c.self.view_is ∙ sym c.asking.ensures ∙ ap option_copied c.in-Some.is in
     let f = decided_stage name.gate by verdicts.Approve moment in
@@ -39,7 +39,7 @@ returns-clause-ok g c =
     let name = c.args.name.now in
     let by = c.args.by.now in
     let moment = c.args.moment in
-    let texts = texts_of g.T.Planner.directory_of g.T.Planner.rules_of in
+    let texts = texts_of g.T.Planner.means in
     let old : LiveMail = record { submission = arc_value it.submission; accepted_at = it.accepted_at; epoch = it.epoch; org = option_map (λ o. texts (arc_value o)) it.org; opened = it.opened.items; stages = it.stages.items } in
     let at : asking_at old name ≡ Some c.in-Some.asking.now = ap (λ (m : LiveMail). asking_at m name) c.self.view_is ∙ sym c.asking.ensures ∙ ap option_copied c.in-Some.is in
     let f = decided_stage name.gate by verdicts.Approve moment in

@@ -12,7 +12,7 @@ use Rattle.hub_core.proofs.live.Live.expire.Goals as goal
 pub invariant_of-self : goal.invariant_of-self
 invariant_of-self g c =
     let it = c.self.inside in
-    let texts = texts_of g.T.Planner.directory_of g.T.Planner.rules_of in
+    let texts = texts_of g.T.Planner.means in
     let old : LiveMail = record { submission = arc_value it.submission; accepted_at = it.accepted_at; epoch = it.epoch; org = option_map (λ o. texts (arc_value o)) it.org; opened = it.opened.items; stages = it.stages.items } in
     let stages = c.expire_stages.new.stages.items in
     free-live (λ o. texts (arc_value o)) old it.org c.free.new.org stages c.deref.result.now refl c.self.invariant (ap length c.expire_stages.ensures ∙ length-map it.stages.items (expired_stage c.args.moment))
@@ -21,7 +21,7 @@ invariant_of-self g c =
 pub returns : goal.returns
 returns g c =
     let it = c.self.inside in
-    let texts = texts_of g.T.Planner.directory_of g.T.Planner.rules_of in
+    let texts = texts_of g.T.Planner.means in
     let old : LiveMail = record { submission = arc_value it.submission; accepted_at = it.accepted_at; epoch = it.epoch; org = option_map (λ o. texts (arc_value o)) it.org; opened = it.opened.items; stages = it.stages.items } in
     free-is (λ o. texts (arc_value o)) old it.org c.free.new.org c.expire_stages.new.stages.items c.deref.result.now refl c.deref.ensures.value c.free.ensures
     ∙ ap (λ (l : List Stage). freed (record old { stages = l })) c.expire_stages.ensures ∙ ap (expired_mail c.args.moment) c.self.view_is

@@ -15,7 +15,7 @@ pub invariant_of-self : goal.invariant_of-self
 invariant_of-self g c =
     let it = c.self.inside in
     let name = c.args.name.now in
-    let texts = texts_of g.T.Planner.directory_of g.T.Planner.rules_of in
+    let texts = texts_of g.T.Planner.means in
     let old : LiveMail = record { submission = arc_value it.submission; accepted_at = it.accepted_at; epoch = it.epoch; org = option_map (λ o. texts (arc_value o)) it.org; opened = it.opened.items; stages = it.stages.items } in
     let taken : is_taken (decision_in (Some old) name c.args.by.now verdicts.Reject c.args.moment) ≡ true =
     subst (λ (m : LiveMail). is_taken (decision_in (Some m) name c.args.by.now verdicts.Reject c.args.moment) ≡ true) (sym c.self.view_is) c.requires in
@@ -31,7 +31,7 @@ pub returns : goal.returns
 returns g c =
     let it = c.self.inside in
     let name = c.args.name.now in
-    let texts = texts_of g.T.Planner.directory_of g.T.Planner.rules_of in
+    let texts = texts_of g.T.Planner.means in
     let old : LiveMail = record { submission = arc_value it.submission; accepted_at = it.accepted_at; epoch = it.epoch; org = option_map (λ o. texts (arc_value o)) it.org; opened = it.opened.items; stages = it.stages.items } in
     let taken : is_taken (decision_in (Some old) name c.args.by.now verdicts.Reject c.args.moment) ≡ true =
     subst (λ (m : LiveMail). is_taken (decision_in (Some m) name c.args.by.now verdicts.Reject c.args.moment) ≡ true) (sym c.self.view_is) c.requires in

@@ -9,10 +9,10 @@ use Rattle.hub_core.proofs.state.State.judge_commit.Goals as goal
 
 pub returns-in-Some : goal.returns-in-Some
 returns-in-Some g c =
-    let org = texts_of g.T.Planner.directory_of g.T.Planner.rules_of c.args.outcome.now.0 in
+    let org = texts_of g.T.Planner.means c.args.outcome.now.org in
     let there = c.in-Some.ensures.lookup in
     subst (λ (wanted : Reply). IfOk c.judge.result (λ (reply : Reply). reply ≡ wanted))
-    (commit-judged c.args.self.now c.args.outcome.now.1 org c.in-Some.live.now c.number-number.result c.as_slice.result.now c.if-number-eq0.false
+    (commit-judged c.args.self.now c.args.outcome.now.input org c.in-Some.live.now c.number-number.result c.as_slice.result.now c.if-number-eq0.false
     (c.number-number.ensures ∙ ap (λ (i : Input). i.number) c.input.ensures)
     (c.as_slice.ensures ∙ ap (λ (s : Standing). s.live) c.self.view_is)
     (slice_get_read _ _ _ c.in-Some.live.now refl there.3.0 there.1))

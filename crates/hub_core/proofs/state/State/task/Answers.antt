@@ -8,6 +8,6 @@ use Rattle.hub_core.proofs.state.State.task.Goals as goal
 pub returns-in-Some-clause-first : goal.returns-in-Some-clause-first
 returns-in-Some-clause-first g c =
     first-task-named (λ (t : Task g.row.T.Denot g.row.T-Org.Denot). t.input)
-    (λ (t : Task g.row.T.Denot g.row.T-Org.Denot). texts_of g.T.Planner.directory_of g.T.Planner.rules_of (arc_value t.org))
+    (λ (t : Task g.row.T.Denot g.row.T-Org.Denot). texts_of g.T.Planner.means (arc_value t.org))
     c.args.self.now c.in-Some.name c.args.residue c.args.workers c.task_of.result (sym c.first_task.ensures ∙ c.in-Some.is) c.task_of.ensures.waits
     c.task_of.ensures.release c.task_of.ensures.made

@@ -25,7 +25,7 @@ returns-in-Ok-write-clause-adds g c setup h ready follows same =
         honest = stays_honest s0 s1 c.write.ensures.stays ready.honest;
         whole = ap (λ (k : Kept). k.broken) c.self.view_is ∙ ready.whole;
         state =
-            c.in-Ok.ensures.1 ∙ ap (λ (k : Kept). state_after (setup_of g.T.Planner.reads g.T.Planner.release_of g.T.Planner.inside g.T.Planner.takes k.state.limits) k.state entry) c.self.view_is ∙ sym same
+            c.in-Ok.ensures.1 ∙ ap (λ (k : Kept). state_after (setup_of g.T.Planner.means k.state.limits) k.state entry) c.self.view_is ∙ sym same
             ∙ ap (λ (s : Standing). state_after setup s entry) ready.state ∙ sym (standing-push setup h entry);
         most = c.write.ensures.most ∙ most;
         log = done;

@@ -15,42 +15,42 @@ use Rattle.queue_store.proofs.hub.Hub.categorise.Goals as goal
 
 pub returns-in-Ok-clause-adds : goal.returns-in-Ok-clause-adds
 returns-in-Ok-clause-adds g c limits h ready =
-    let setup = setup_of g.T.Planner.reads g.T.Planner.release_of g.T.Planner.inside g.T.Planner.takes limits in
+    let setup = setup_of g.T.Planner.means limits in
     let name = c.args.name.now in
     let s = c.args.self.now.state in
     let task = c.in-Ok-Some.task in
     let input = task.input in
-    let org = texts_of g.T.Planner.directory_of g.T.Planner.rules_of (arc_value task.org) in
+    let org = texts_of g.T.Planner.means (arc_value task.org) in
     let wait =
     sym (ap (λ o. is_some o) c.in-Ok-Some.field-0-is) ∙ c.in-Ok-Some.ensures.waits ∙ ap (λ (k : Kept). is_uncategorised (mail_of k.state name.submission) name.release) c.self.view_is in
     let made = subst (λ (k : Kept). IfSome (mail_of k.state name.submission) (λ (mail : LiveMail). IsTask name.submission mail input org)) c.self.view_is
-    (held_of c.in-Ok-Some.field-0 task (λ t. IfSome (mail_of c.self.inside.state name.submission) (λ (mail : LiveMail). IsTask name.submission mail t.input (texts_of g.T.Planner.directory_of g.T.Planner.rules_of (arc_value t.org))))
+    (held_of c.in-Ok-Some.field-0 task (λ t. IfSome (mail_of c.self.inside.state name.submission) (λ (mail : LiveMail). IsTask name.submission mail t.input (texts_of g.T.Planner.means (arc_value t.org))))
     c.in-Ok-Some.field-0-is c.in-Ok-Some.ensures.made) in
     let release = held_of c.in-Ok-Some.field-0 task (λ t. t.input.release ≡ name.release) c.in-Ok-Some.field-0-is c.in-Ok-Some.ensures.release in
-    let own : entries.Categorised c.in-Ok.outcome.1.number c.in-Ok.outcome.1.release c.in-Ok.outcome.2 ∷ [] ≡ entries_made setup input org =
-    ap (λ (r : Release). entries.Categorised c.in-Ok.outcome.1.number c.in-Ok.outcome.1.release r ∷ []) (c.add_release.ensures.prescribed limits)
-    ∙ (λ i. entries_made setup (c.in-Ok.ensures i).1 (texts_of g.T.Planner.directory_of g.T.Planner.rules_of (c.in-Ok.ensures i).0)) in
-    let same : entries.Categorised c.in-Ok.outcome.1.number c.in-Ok.outcome.1.release c.in-Ok.outcome.2 ∷ [] ≡ entries_at setup s name = own ∙ task_adds setup s input org name wait made release in
+    let own : entries.Categorised c.in-Ok.outcome.input.number c.in-Ok.outcome.input.release c.in-Ok.outcome.release ∷ [] ≡ entries_made setup input org =
+    ap (λ (r : Release). entries.Categorised c.in-Ok.outcome.input.number c.in-Ok.outcome.input.release r ∷ []) (c.add_release.ensures.prescribed limits)
+    ∙ (λ i. entries_made setup (c.in-Ok.ensures i).input (texts_of g.T.Planner.means (c.in-Ok.ensures i).org)) in
+    let same : entries.Categorised c.in-Ok.outcome.input.number c.in-Ok.outcome.input.release c.in-Ok.outcome.release ∷ [] ≡ entries_at setup s name = own ∙ task_adds setup s input org name wait made release in
     on_ok_weaker c.add_release.result (λ done. adds-along setup _ _ h _ _ same done) (c.add_release.ensures.adds limits h ready)
 
 pub returns-in-Ok-clause-declines : goal.returns-in-Ok-clause-declines
 returns-in-Ok-clause-declines g c limits h ready =
-    let setup = setup_of g.T.Planner.reads g.T.Planner.release_of g.T.Planner.inside g.T.Planner.takes limits in
+    let setup = setup_of g.T.Planner.means limits in
     let name = c.args.name.now in
     let s = c.args.self.now.state in
     let task = c.in-Ok-Some.task in
     let input = task.input in
-    let org = texts_of g.T.Planner.directory_of g.T.Planner.rules_of (arc_value task.org) in
+    let org = texts_of g.T.Planner.means (arc_value task.org) in
     let wait =
     sym (ap (λ o. is_some o) c.in-Ok-Some.field-0-is) ∙ c.in-Ok-Some.ensures.waits ∙ ap (λ (k : Kept). is_uncategorised (mail_of k.state name.submission) name.release) c.self.view_is in
     let made = subst (λ (k : Kept). IfSome (mail_of k.state name.submission) (λ (mail : LiveMail). IsTask name.submission mail input org)) c.self.view_is
-    (held_of c.in-Ok-Some.field-0 task (λ t. IfSome (mail_of c.self.inside.state name.submission) (λ (mail : LiveMail). IsTask name.submission mail t.input (texts_of g.T.Planner.directory_of g.T.Planner.rules_of (arc_value t.org))))
+    (held_of c.in-Ok-Some.field-0 task (λ t. IfSome (mail_of c.self.inside.state name.submission) (λ (mail : LiveMail). IsTask name.submission mail t.input (texts_of g.T.Planner.means (arc_value t.org))))
     c.in-Ok-Some.field-0-is c.in-Ok-Some.ensures.made) in
     let release = held_of c.in-Ok-Some.field-0 task (λ t. t.input.release ≡ name.release) c.in-Ok-Some.field-0-is c.in-Ok-Some.ensures.release in
-    let own : entries.Categorised c.in-Ok.outcome.1.number c.in-Ok.outcome.1.release c.in-Ok.outcome.2 ∷ [] ≡ entries_made setup input org =
-    ap (λ (r : Release). entries.Categorised c.in-Ok.outcome.1.number c.in-Ok.outcome.1.release r ∷ []) (c.add_release.ensures.prescribed limits)
-    ∙ (λ i. entries_made setup (c.in-Ok.ensures i).1 (texts_of g.T.Planner.directory_of g.T.Planner.rules_of (c.in-Ok.ensures i).0)) in
-    let same : entries.Categorised c.in-Ok.outcome.1.number c.in-Ok.outcome.1.release c.in-Ok.outcome.2 ∷ [] ≡ entries_at setup s name = own ∙ task_adds setup s input org name wait made release in
+    let own : entries.Categorised c.in-Ok.outcome.input.number c.in-Ok.outcome.input.release c.in-Ok.outcome.release ∷ [] ≡ entries_made setup input org =
+    ap (λ (r : Release). entries.Categorised c.in-Ok.outcome.input.number c.in-Ok.outcome.input.release r ∷ []) (c.add_release.ensures.prescribed limits)
+    ∙ (λ i. entries_made setup (c.in-Ok.ensures i).input (texts_of g.T.Planner.means (c.in-Ok.ensures i).org)) in
+    let same : entries.Categorised c.in-Ok.outcome.input.number c.in-Ok.outcome.input.release c.in-Ok.outcome.release ∷ [] ≡ entries_at setup s name = own ∙ task_adds setup s input org name wait made release in
     err_weaker _ _ c.add_release.result (λ e way. elim way [
       | inl disk ↦ inl disk
       | inr declined ↦ inr (declined-along setup _ _ h _ _ e same declined)

@@ -10,7 +10,7 @@ use Rattle.queue_store.proofs.hub.Hub.categorise_each.Goals as goal
 
 pub loop-name-init : goal.loop-name-init
 loop-name-init g c = record {
-  goes = λ limits h ready. ([], adds-none (setup_of g.T.Planner.reads g.T.Planner.release_of g.T.Planner.inside g.T.Planner.takes limits) _ _ h [] refl ready, refl);
+  goes = λ limits h ready. ([], adds-none (setup_of g.T.Planner.means limits) _ _ h [] refl ready, refl);
   stays = stays_not _;
 }
 
@@ -21,7 +21,7 @@ loop-name-preserved g c =
     let name = get_or c.args.names.now c.loop-name.name-index none in
     record {
       goes = λ limits h ready.
-          let setup = setup_of g.T.Planner.reads g.T.Planner.release_of g.T.Planner.inside g.T.Planner.takes limits in
+          let setup = setup_of g.T.Planner.means limits in
           let es = entries_at setup c.loop-name.self.state name in
           let so_far = now.goes limits h ready in
           let one = c.in-Ok.ensures.adds limits (h ++ so_far.0) so_far.1.ready in (
@@ -35,7 +35,7 @@ loop-name-preserved g c =
 
 pub returns-clause-adds : goal.returns-clause-adds
 returns-clause-adds g c limits h ready =
-    let setup = setup_of g.T.Planner.reads g.T.Planner.release_of g.T.Planner.inside g.T.Planner.takes limits in
+    let setup = setup_of g.T.Planner.means limits in
     let so_far = c.loop-name.invariant.goes limits h ready in
     let over = drop_all c.loop-name.name-index c.args.names.now c.loop-name-test.false in
     let all : so_far.0 ≡ entries_all setup c.args.self.now.state c.args.names.now =
@@ -44,7 +44,7 @@ returns-clause-adds g c limits h ready =
 
 pub returns-in-Err-clause-stops : goal.returns-in-Err-clause-stops
 returns-in-Err-clause-stops g c limits h ready =
-    let setup = setup_of g.T.Planner.reads g.T.Planner.release_of g.T.Planner.inside g.T.Planner.takes limits in
+    let setup = setup_of g.T.Planner.means limits in
     let so_far = c.loop-name.invariant.goes limits h ready in
     let none : TaskName = record { submission = 0; release = 0 } in
     let names = c.args.names.now in

@@ -9,9 +9,9 @@ use Rattle.queue_store.proofs.hub.Hub.categorise_each.Given as goal
 
 abbrev pub invariant-loop-name : goal.invariant-loop-name
 invariant-loop-name g l = record {
-  goes : (limits : Limits) (h : List Entry) → IsReady (setup_of g.T.Planner.reads g.T.Planner.release_of g.T.Planner.inside g.T.Planner.takes limits) (g.P.Plant.state l.fn.plant) l.fn.self h →
-      (done : List Entry) × Adds (setup_of g.T.Planner.reads g.T.Planner.release_of g.T.Planner.inside g.T.Planner.takes limits) (g.P.Plant.state l.plant) l.self h done
-      × (done ++ entries_all (setup_of g.T.Planner.reads g.T.Planner.release_of g.T.Planner.inside g.T.Planner.takes limits) l.self.state (drop l.name-index l.names)
-      ≡ entries_all (setup_of g.T.Planner.reads g.T.Planner.release_of g.T.Planner.inside g.T.Planner.takes limits) l.fn.self.state l.names);
+  goes : (limits : Limits) (h : List Entry) → IsReady (setup_of g.T.Planner.means limits) (g.P.Plant.state l.fn.plant) l.fn.self h →
+      (done : List Entry) × Adds (setup_of g.T.Planner.means limits) (g.P.Plant.state l.plant) l.self h done
+      × (done ++ entries_all (setup_of g.T.Planner.means limits) l.self.state (drop l.name-index l.names)
+      ≡ entries_all (setup_of g.T.Planner.means limits) l.fn.self.state l.names);
   stays : Stays (g.P.Plant.state l.fn.plant) (g.P.Plant.state l.plant);
 }

@@ -11,7 +11,7 @@ use Rattle.queue_store.proofs.hub.Hub.change.Goals as goal
 
 pub returns-then-epoch-clause-adds : goal.returns-then-epoch-clause-adds
 returns-then-epoch-clause-adds g c limits h ready =
-    let setup = setup_of g.T.Planner.reads g.T.Planner.release_of g.T.Planner.inside g.T.Planner.takes limits in
+    let setup = setup_of g.T.Planner.means limits in
     let s = c.args.self.now.state in
     let org : Texts = record { directory = c.args.directory; rules = c.args.rules } in
     let read : Texts = record { directory = c.as_slice.result.now; rules = c.as_slice-2.result.now } in
@@ -24,7 +24,7 @@ returns-then-epoch-clause-adds g c limits h ready =
 
 pub returns-in-Ok-append-clause-adds : goal.returns-in-Ok-append-clause-adds
 returns-in-Ok-append-clause-adds g c limits h ready =
-    let setup = setup_of g.T.Planner.reads g.T.Planner.release_of g.T.Planner.inside g.T.Planner.takes limits in
+    let setup = setup_of g.T.Planner.means limits in
     let s = c.args.self.now.state in
     let org : Texts = record { directory = c.args.directory; rules = c.args.rules } in
     let read : Texts = record { directory = c.as_slice.result.now; rules = c.as_slice-2.result.now } in

@@ -9,9 +9,9 @@ use Rattle.queue_store.proofs.hub.Hub.commit.Goals as goal
 
 pub returns-clause-journal : goal.returns-clause-journal
 returns-clause-journal g c limits h ready =
-    let setup = setup_of g.T.Planner.reads g.T.Planner.release_of g.T.Planner.inside g.T.Planner.takes limits in
-    let org = texts_of g.T.Planner.directory_of g.T.Planner.rules_of c.args.outcome.0 in
+    let setup = setup_of g.T.Planner.means limits in
+    let org = texts_of g.T.Planner.means c.args.outcome.org in
     let whole = c.in_ok-mend.ensures.whole ready.whole in
     let ready' = subst (λ (k : Kept). IsReady setup (g.P.Plant.state c.mend.new.plant) k h) (sym whole.1) (subst (λ p. IsReady setup (g.P.Plant.state p) c.args.self.now h) (sym whole.2) ready) in
-    subst (λ (k : Kept). OnOk c.commit_outcome.result (IsJournaled setup (h ++ entries_commit k.state c.args.outcome.1 org c.args.outcome.2))) whole.1
+    subst (λ (k : Kept). OnOk c.commit_outcome.result (IsJournaled setup (h ++ entries_commit k.state c.args.outcome.input org c.args.outcome.release))) whole.1
     (on_ok c.commit_outcome.result (journaled setup _ _ h _ (c.reports_list_what_is_sent.ensures limits)) (c.commit_outcome.ensures.adds limits h ready'))

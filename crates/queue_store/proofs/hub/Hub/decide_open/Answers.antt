@@ -11,7 +11,7 @@ use Rattle.queue_store.proofs.hub.Hub.decide_open.Goals as goal
 
 pub returns-then-not-counts-clause-adds : goal.returns-then-not-counts-clause-adds
 returns-then-not-counts-clause-adds g c limits h ready =
-    let setup = setup_of g.T.Planner.reads g.T.Planner.release_of g.T.Planner.inside g.T.Planner.takes limits in
+    let setup = setup_of g.T.Planner.means limits in
     let s = c.args.self.now.state in
     let name = c.args.approval.now in
     let by = c.args.by.now in
@@ -24,7 +24,7 @@ returns-then-not-counts-clause-adds g c limits h ready =
 
 pub returns-in-Ok-add_decision-clause-adds : goal.returns-in-Ok-add_decision-clause-adds
 returns-in-Ok-add_decision-clause-adds g c limits h ready =
-    let setup = setup_of g.T.Planner.reads g.T.Planner.release_of g.T.Planner.inside g.T.Planner.takes limits in
+    let setup = setup_of g.T.Planner.means limits in
     let s = c.args.self.now.state in
     let name = c.args.approval.now in
     let by = c.args.by.now in

@@ -24,12 +24,12 @@ returns-clause-ready g c h honest stands =
       most = c.replay.ensures.most ∙ ap (λ (v : LogView). v.most) c.in_ok-log.ensures.at_start;
       state = c.in_ok-state.ensures.state h begun read;
       log = record { file = log; at = c.in_ok-state.ensures.end h begun read; durable = durable_reads s1 s2 (c.in_ok-log.ensures.durable honest) reads };
-      stands = stands-same (setup_of g.T.Planner.reads g.T.Planner.release_of g.T.Planner.inside g.T.Planner.takes c.args.limits) s0.image s2.image h stands (ap (λ (i : Image). i.shelf) reads.image ∙ c.open_log.ensures.shelf honest) (inr log);
+      stands = stands-same (setup_of g.T.Planner.means c.args.limits) s0.image s2.image h stands (ap (λ (i : Image). i.shelf) reads.image ∙ c.open_log.ensures.shelf honest) (inr log);
     }
 
 pub returns-in_err-log-clause-bad : goal.returns-in_err-log-clause-bad
 returns-in_err-log-clause-bad g c honest =
-    refused_head (setup_of g.T.Planner.reads g.T.Planner.release_of g.T.Planner.inside g.T.Planner.takes c.args.limits) (g.P.Plant.state c.args.plant.now).image.file c.in_err-log.field-0.0 _ c.from_residual.ensures.1 (c.in_err-log.ensures.refused honest)
+    refused_head (setup_of g.T.Planner.means c.args.limits) (g.P.Plant.state c.args.plant.now).image.file c.in_err-log.field-0.0 _ c.from_residual.ensures.1 (c.in_err-log.ensures.refused honest)
 
 pub returns-in_err-state-clause-bad : goal.returns-in_err-state-clause-bad
 returns-in_err-state-clause-bad g c honest =
@@ -39,5 +39,5 @@ returns-in_err-state-clause-bad g c honest =
     let log = c.in_ok-log.log in
     let held = subst (λ (v : LogView). IsHeld s1.image.file v) (sym c.in_ok-log.ensures.at_start) refl in
     let begins = subst (λ (v : LogView). Begins s1.image.file [] v.place) (sym c.in_ok-log.ensures.at_start) (c.in_ok-log.ensures.begins honest) in
-    refused_later (setup_of g.T.Planner.reads g.T.Planner.release_of g.T.Planner.inside g.T.Planner.takes c.args.limits) s0.image.file s1.image.file c.in_err-state.field-0.0 _ c.from_residual-in_err-state.ensures.1 (c.in_ok-log.ensures.opened honest)
+    refused_later (setup_of g.T.Planner.means c.args.limits) s0.image.file s1.image.file c.in_err-state.field-0.0 _ c.from_residual-in_err-state.ensures.1 (c.in_ok-log.ensures.opened honest)
     (λ file. c.in_err-state.ensures.never [] begun tt (c.in_ok-log.ensures.unread [] honest file)) (c.in_err-state.ensures.bad begun held begins)

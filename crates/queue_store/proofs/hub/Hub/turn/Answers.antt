@@ -10,7 +10,7 @@ use Rattle.queue_store.proofs.hub.Hub.turn.Goals as goal
 
 pub returns-then-not-pends-clause-adds : goal.returns-then-not-pends-clause-adds
 returns-then-not-pends-clause-adds g c limits h ready =
-    let setup = setup_of g.T.Planner.reads g.T.Planner.release_of g.T.Planner.inside g.T.Planner.takes limits in
+    let setup = setup_of g.T.Planner.means limits in
     let s = c.args.self.now.state in
     let whole = c.in_ok-mend.ensures.whole ready.whole in
     let ready' = subst (λ (k : Kept). IsReady setup (g.P.Plant.state c.mend.new.plant) k h) (sym whole.1) (subst (λ p. IsReady setup (g.P.Plant.state p) c.args.self.now h) (sym whole.2) ready) in

@@ -13,14 +13,14 @@ use Rattle.queue_store.proofs.hub.Hub.turn_over.Goals as goal
 
 pub returns-in-Ok-clause-adds : goal.returns-in-Ok-clause-adds
 returns-in-Ok-clause-adds g c limits h ready =
-    let setup = setup_of g.T.Planner.reads g.T.Planner.release_of g.T.Planner.inside g.T.Planner.takes limits in
+    let setup = setup_of g.T.Planner.means limits in
     let s = c.args.self.now.state in
     let moment = c.now-moment.result in
     let entry = entries.Moment moment in
     let begun = entry ∷ [] in
     let later : s.moment ≤ moment = subst (λ (k : Kept). k.state.moment ≤ moment) c.self.view_is c.now-moment.ensures.later in
     let at = c.now-moment.ensures.value ∙ ap (λ (k : Kept). now_of k.state c.args.clock) c.self.view_is in
-    let same = ap (λ (l : Limits). state_after (setup_of g.T.Planner.reads g.T.Planner.release_of g.T.Planner.inside g.T.Planner.takes l) s entry) (sym (ready-limits setup _ _ h ready)) in
+    let same = ap (λ (l : Limits). state_after (setup_of g.T.Planner.means l) s entry) (sym (ready-limits setup _ _ h ready)) in
     let one = c.in-Ok.ensures.adds setup h ready (moment_follows setup _ _ h moment ready later c.now-moment.ensures.last) same in
     on_ok_weaker c.try_waiting.result (λ tried. (
       tried.0,
@@ -31,14 +31,14 @@ returns-in-Ok-clause-adds g c limits h ready =
 
 pub returns-in-Ok-clause-stops : goal.returns-in-Ok-clause-stops
 returns-in-Ok-clause-stops g c limits h ready =
-    let setup = setup_of g.T.Planner.reads g.T.Planner.release_of g.T.Planner.inside g.T.Planner.takes limits in
+    let setup = setup_of g.T.Planner.means limits in
     let s = c.args.self.now.state in
     let moment = c.now-moment.result in
     let entry = entries.Moment moment in
     let begun = entry ∷ [] in
     let later : s.moment ≤ moment = subst (λ (k : Kept). k.state.moment ≤ moment) c.self.view_is c.now-moment.ensures.later in
     let at = c.now-moment.ensures.value ∙ ap (λ (k : Kept). now_of k.state c.args.clock) c.self.view_is in
-    let same = ap (λ (l : Limits). state_after (setup_of g.T.Planner.reads g.T.Planner.release_of g.T.Planner.inside g.T.Planner.takes l) s entry) (sym (ready-limits setup _ _ h ready)) in
+    let same = ap (λ (l : Limits). state_after (setup_of g.T.Planner.means l) s entry) (sym (ready-limits setup _ _ h ready)) in
     let one = c.in-Ok.ensures.adds setup h ready (moment_follows setup _ _ h moment ready later c.now-moment.ensures.last) same in
     let rise = c.append.ensures.stays.shelf_faults in
     err_weaker _ _ c.try_waiting.result (λ e ends. elim ends [
@@ -55,7 +55,7 @@ returns-in-Ok-clause-stops g c limits h ready =
 
 pub returns-in-Err-clause-stops : goal.returns-in-Err-clause-stops
 returns-in-Err-clause-stops g c limits h ready =
-    let setup = setup_of g.T.Planner.reads g.T.Planner.release_of g.T.Planner.inside g.T.Planner.takes limits in
+    let setup = setup_of g.T.Planner.means limits in
     let s = c.args.self.now.state in
     let moment = c.now-moment.result in
     let begun = entries.Moment moment ∷ [] in

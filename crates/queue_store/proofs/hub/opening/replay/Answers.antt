@@ -35,10 +35,10 @@ loop-state-preserved g c =
           let now = subst (λ (i : Image). IsRead i.file h far.done c.loop-state.log) (sym (inv.reads honest).image) far.read in
           let on = subst (λ (o : Option Entry). ReadsOn s1.image.file h far.done c.next.new.self (Ok o)) c.in-Some.is
           (c.in_ok-entry.ensures.reads_on h far.done (stays_honest s0 s1 inv.stays honest) now) in
-          replayed_more (setup_of g.T.Planner.reads g.T.Planner.release_of g.T.Planner.inside g.T.Planner.takes c.args.limits) s0.image.file h c.loop-state.log c.next.new.self c.loop-state.state c.go_on.new.state c.in-Some.entry far
+          replayed_more (setup_of g.T.Planner.means c.args.limits) s0.image.file h c.loop-state.log c.next.new.self c.loop-state.state c.go_on.new.state c.in-Some.entry far
           (subst (λ (i : Image). IsRead i.file h (far.done ++ c.in-Some.entry ∷ []) c.next.new.self) (inv.reads honest).image on)
           (c.in_ok-go_on.ensures.goes
-          ∙ ap (λ (l : Limits). state_after (setup_of g.T.Planner.reads g.T.Planner.release_of g.T.Planner.inside g.T.Planner.takes l) c.loop-state.state c.in-Some.entry) (ap (λ (s : Standing). s.limits) far.state ∙ standing-limits (setup_of g.T.Planner.reads g.T.Planner.release_of g.T.Planner.inside g.T.Planner.takes c.args.limits) far.done));
+          ∙ ap (λ (l : Limits). state_after (setup_of g.T.Planner.means l) c.loop-state.state c.in-Some.entry) (ap (λ (s : Standing). s.limits) far.state ∙ standing-limits (setup_of g.T.Planner.means c.args.limits) far.done));
       walked = λ honest held begins.
           let w = inv.walked honest held begins in
           let log = c.loop-state.log in
@@ -51,9 +51,9 @@ loop-state-preserved g c =
           let there = subst (λ (i : Image). NextAnswer (drop log.place i.file) log.place (Ok (Some entry))) same answer in
           let kept = subst (λ (i : Image). IsHeld i.file next) same (c.next.ensures.held begun now) in
           let moved : next.place ≡ log.place + 9 + length (entry_text entry) = search rules in
-          walked_more (setup_of g.T.Planner.reads g.T.Planner.release_of g.T.Planner.inside g.T.Planner.takes c.args.limits) s0.image.file log next c.loop-state.state c.go_on.new.state entry w there (c.in_ok-go_on.ensures.lawful_alone c.args.limits) moved kept
+          walked_more (setup_of g.T.Planner.means c.args.limits) s0.image.file log next c.loop-state.state c.go_on.new.state entry w there (c.in_ok-go_on.ensures.lawful_alone c.args.limits) moved kept
           (c.in_ok-go_on.ensures.goes
-          ∙ ap (λ (l : Limits). state_after (setup_of g.T.Planner.reads g.T.Planner.release_of g.T.Planner.inside g.T.Planner.takes l) c.loop-state.state entry) (ap (λ (s : Standing). s.limits) w.state ∙ standing-limits (setup_of g.T.Planner.reads g.T.Planner.release_of g.T.Planner.inside g.T.Planner.takes c.args.limits) w.done));
+          ∙ ap (λ (l : Limits). state_after (setup_of g.T.Planner.means l) c.loop-state.state entry) (ap (λ (s : Standing). s.limits) w.state ∙ standing-limits (setup_of g.T.Planner.means c.args.limits) w.done));
     }
 
 pub returns-in_err-go_on-clause-never : goal.returns-in_err-go_on-clause-never
@@ -65,7 +65,7 @@ returns-in_err-go_on-clause-never g c h honest history read =
     let now = subst (λ (i : Image). IsRead i.file h far.done c.loop-state.log) (sym (inv.reads honest).image) far.read in
     let on = subst (λ (o : Option Entry). ReadsOn s1.image.file h far.done c.next.new.self (Ok o)) c.in-Some.is
     (c.in_ok-entry.ensures.reads_on h far.done (stays_honest s0 s1 inv.stays honest) now) in
-    let lawful = ap (λ (s : Standing). is_lawful (setup_of g.T.Planner.reads g.T.Planner.release_of g.T.Planner.inside g.T.Planner.takes c.args.limits) s c.in-Some.entry) far.state ∙ lawful_next (setup_of g.T.Planner.reads g.T.Planner.release_of g.T.Planner.inside g.T.Planner.takes c.args.limits) s1.image.file h far.done c.in-Some.entry _ history on in
+    let lawful = ap (λ (s : Standing). is_lawful (setup_of g.T.Planner.means c.args.limits) s c.in-Some.entry) far.state ∙ lawful_next (setup_of g.T.Planner.means c.args.limits) s1.image.file h far.done c.in-Some.entry _ history on in
     memory_fault _ _ c.from_residual-in_err-go_on.ensures.1 (c.in_err-go_on.ensures.lawful c.args.limits lawful)
 
 pub returns-clause-state : goal.returns-clause-state
@@ -75,7 +75,7 @@ returns-clause-state g c h honest read =
     let inv = c.loop-state.invariant in
     let far = inv.read h honest read in
     let now = subst (λ (i : Image). IsRead i.file h far.done c.loop-state.log) (sym (inv.reads honest).image) far.read in
-    (replayed_all (setup_of g.T.Planner.reads g.T.Planner.release_of g.T.Planner.inside g.T.Planner.takes c.args.limits) _ h _ _ c.loop-state.state c.in_ok-entry.field-0 (record { done = far.done; read = now; state = far.state }) c.in_default.is (c.in_ok-entry.ensures.reads_on h far.done (stays_honest s0 s1 inv.stays honest) now)).0
+    (replayed_all (setup_of g.T.Planner.means c.args.limits) _ h _ _ c.loop-state.state c.in_ok-entry.field-0 (record { done = far.done; read = now; state = far.state }) c.in_default.is (c.in_ok-entry.ensures.reads_on h far.done (stays_honest s0 s1 inv.stays honest) now)).0
 
 pub returns-clause-end : goal.returns-clause-end
 returns-clause-end g c h honest read =
@@ -84,7 +84,7 @@ returns-clause-end g c h honest read =
     let inv = c.loop-state.invariant in
     let far = inv.read h honest read in
     let now = subst (λ (i : Image). IsRead i.file h far.done c.loop-state.log) (sym (inv.reads honest).image) far.read in
-    (replayed_all (setup_of g.T.Planner.reads g.T.Planner.release_of g.T.Planner.inside g.T.Planner.takes c.args.limits) _ h _ _ c.loop-state.state c.in_ok-entry.field-0 (record { done = far.done; read = now; state = far.state }) c.in_default.is (c.in_ok-entry.ensures.reads_on h far.done (stays_honest s0 s1 inv.stays honest) now)).1
+    (replayed_all (setup_of g.T.Planner.means c.args.limits) _ h _ _ c.loop-state.state c.in_ok-entry.field-0 (record { done = far.done; read = now; state = far.state }) c.in_default.is (c.in_ok-entry.ensures.reads_on h far.done (stays_honest s0 s1 inv.stays honest) now)).1
 
 pub returns-in_err-entry-clause-bad : goal.returns-in_err-entry-clause-bad
 returns-in_err-entry-clause-bad g c honest held begins =
@@ -96,7 +96,7 @@ returns-in_err-entry-clause-bad g c honest held begins =
     let same = (inv.reads honest).image in
     let now = subst (λ (i : Image). IsHeld i.file log) (sym same) w.held in
     let e = c.in_err-entry.field-0.0 in
-    stopped (setup_of g.T.Planner.reads g.T.Planner.release_of g.T.Planner.inside g.T.Planner.takes c.args.limits) s0.image.file log c.loop-state.state e _ c.from_residual-in_err-entry.ensures.1 w
+    stopped (setup_of g.T.Planner.means c.args.limits) s0.image.file log c.loop-state.state e _ c.from_residual-in_err-entry.ensures.1 w
     (subst (λ (i : Image). NextAnswer (drop log.place i.file) log.place (Err e)) same (c.in_err-entry.ensures.answer (stays_honest s0 s1 inv.stays honest) now))
 
 pub returns-in_err-go_on-clause-bad : goal.returns-in_err-go_on-clause-bad
@@ -112,5 +112,5 @@ returns-in_err-go_on-clause-bad g c honest held begins =
     let answer = subst (λ (o : Option Entry). NextAnswer (drop log.place s1.image.file) log.place (Ok o)) c.in-Some.is (c.in_ok-entry.ensures.answer (stays_honest s0 s1 inv.stays honest) now) in
     let there = subst (λ (i : Image). NextAnswer (drop log.place i.file) log.place (Ok (Some entry))) same answer in
     let here : c.gate.result ≡ log.place = search rules in
-    stopped_unlawful (setup_of g.T.Planner.reads g.T.Planner.release_of g.T.Planner.inside g.T.Planner.takes c.args.limits) s0.image.file log c.loop-state.state entry c.gate.result c.in_err-go_on.field-0.0 _ c.from_residual-in_err-go_on.ensures.1 w there here
+    stopped_unlawful (setup_of g.T.Planner.means c.args.limits) s0.image.file log c.loop-state.state entry c.gate.result c.in_err-go_on.field-0.0 _ c.from_residual-in_err-go_on.ensures.1 w there here
     (c.in_err-go_on.ensures.lawful c.args.limits) c.in_err-go_on.ensures.only

@@ -14,8 +14,8 @@ invariant-loop-state g l =
       stays : Stays s0 s;
       most : l.log.most ≡ l.fn.log.most;
       reads : IsTrue s0.honest → Reads s0 s;
-      read : (h : List Entry) → IsTrue s0.honest → IsRead s0.image.file h [] l.fn.log → Replayed (setup_of g.T.Planner.reads g.T.Planner.release_of g.T.Planner.inside g.T.Planner.takes l.fn.limits) s0.image.file h l.log l.state;
-      walked : IsTrue s0.honest → IsHeld s0.image.file l.fn.log → Begins s0.image.file [] l.fn.log.place → Walked (setup_of g.T.Planner.reads g.T.Planner.release_of g.T.Planner.inside g.T.Planner.takes l.fn.limits) s0.image.file l.log l.state;
+      read : (h : List Entry) → IsTrue s0.honest → IsRead s0.image.file h [] l.fn.log → Replayed (setup_of g.T.Planner.means l.fn.limits) s0.image.file h l.log l.state;
+      walked : IsTrue s0.honest → IsHeld s0.image.file l.fn.log → Begins s0.image.file [] l.fn.log.place → Walked (setup_of g.T.Planner.means l.fn.limits) s0.image.file l.log l.state;
     }
 
 abbrev pub decreases-loop-state : goal.decreases-loop-state
