@@ -13,8 +13,8 @@ use Rattle.journal_rules.specs.Taking.{is_taken, takings}
 use Rattle.journal_rules.specs.declared.taking.Taken.{Taken}
 use Rattle.org_directory.specs.Register.{Register, object_of, keys_at}
 use Rattle.org_directory.specs.declared.object.Object.{Object}
-use Rattle.org_directory.specs.declared.object.Tell.{Tell}
-use Rattle.org_directory.specs.declared.object.Tell.TheVariants as tells
+use Rattle.moderation.specs.declared.tell.Tell.{Tell}
+use Rattle.moderation.specs.declared.tell.Tell.TheVariants as tells
 use Rattle.group_expand.specs.Expansion.{expansion}
 use Rattle.group_expand.specs.Routes.{too_many}
 use Rattle.rule_terms.specs.declared.action.Action.{Action}

@@ -6,7 +6,8 @@ ghost use Rattle.categorizer.specs.Releasing.{approvers, rule_approvers, rule_na
 use crate::copies::copied_keys;
 use mail_names::{Bytes, Gate, Items, Key, NoMemory, copied_gate};
 use mail_plan::Hold;
-use org_directory::{Directory, Object, Tell};
+use moderation::Tell;
+use org_directory::{Directory, Object};
 use rule_terms::{Action, Rule};
 use std::alloc::Global;
 

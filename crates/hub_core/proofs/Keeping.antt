@@ -14,8 +14,8 @@ use Rattle.moderation.specs.declared.approval.Verdict.{Verdict}
 use Rattle.moderation.specs.declared.approval.Verdict.TheVariants as verdicts
 use Rattle.mail_plan.specs.Planning.{Opening}
 use Rattle.hub_core.specs.declared.asking.Asking.{Asking}
-use Rattle.org_directory.specs.declared.object.Tell.{Tell}
-use Rattle.org_directory.specs.declared.object.Tell.TheVariants as tellings
+use Rattle.moderation.specs.declared.tell.Tell.{Tell}
+use Rattle.moderation.specs.declared.tell.Tell.TheVariants as tellings
 use Rattle.hub_core.specs.Setup.{Texts, Setup}
 use Rattle.hub_core.specs.Ending.{is_inside, is_told}
 use Rattle.hub_core.specs.Approvals.{Stage, changed, pends, stage_open, decided_asking, decided_stage, expired_asking, expired_stage, asking_in}

@@ -4,8 +4,8 @@ use Rattle.mail_names.specs.declared.name.ApprovalName.{ApprovalName}
 use Rattle.mail_names.specs.declared.name.ItemName.{ItemName}
 use Rattle.mail_names.specs.declared.name.Mark.TheVariants as marks
 use Rattle.moderation.specs.Approval.{runs_out}
-use Rattle.org_directory.specs.declared.object.Tell.{Tell}
-use Rattle.org_directory.specs.declared.object.Tell.TheVariants as tellings
+use Rattle.moderation.specs.declared.tell.Tell.{Tell}
+use Rattle.moderation.specs.declared.tell.Tell.TheVariants as tellings
 use Rattle.mail_notices.specs.About.{about_of}
 use Rattle.mail_notices.specs.Text.{notice_text}
 use Rattle.mail_notices.specs.declared.kinds.Notice.{Notice}

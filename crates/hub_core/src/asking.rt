@@ -5,8 +5,7 @@ ghost use Rattle.hub_core.specs.Approvals.{asking_of};
 
 use mail_names::{Bytes, LAST_MOMENT, NoMemory};
 use mail_plan::Hold;
-use moderation::Approval;
-use org_directory::Tell;
+use moderation::{Approval, Tell};
 use std::alloc::Global;
 
 /// An approval of a release, what it is asked for in words, and which senders are told of its end.

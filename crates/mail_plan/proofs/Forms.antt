@@ -28,8 +28,8 @@ use Rattle.mail_plan.specs.declared.release.Hold.{Hold}
 use Rattle.mail_plan.specs.declared.release.End.{End}
 use Rattle.mail_plan.specs.declared.release.End.TheVariants as ends
 use Rattle.mail_plan.specs.declared.release.Release.{Release}
-use Rattle.org_directory.specs.declared.object.Tell.{Tell}
-use Rattle.org_directory.specs.declared.object.Tell.TheVariants as tells
+use Rattle.moderation.specs.declared.tell.Tell.{Tell}
+use Rattle.moderation.specs.declared.tell.Tell.TheVariants as tells
 use Rattle.mail_names.specs.declared.gate.Gate.{Gate}
 use Rattle.mail_names.specs.declared.gate.Gate.TheVariants as gates
 use Rattle.mail_plan.specs.declared.entry.Entry.TheVariants as entries

@@ -11,8 +11,8 @@ use Rattle.moderation.specs.declared.approval.Verdict.{Verdict}
 use Rattle.moderation.specs.declared.approval.Verdict.TheVariants as verdicts
 use Rattle.journal_report.specs.declared.why.Why.{Why}
 use Rattle.journal_report.specs.declared.why.Why.TheVariants as whys
-use Rattle.org_directory.specs.declared.object.Tell.{Tell}
-use Rattle.org_directory.specs.declared.object.Tell.TheVariants as tells
+use Rattle.moderation.specs.declared.tell.Tell.{Tell}
+use Rattle.moderation.specs.declared.tell.Tell.TheVariants as tells
 use Rattle.mail_plan.specs.Submission.{Submitted}
 use Rattle.mail_plan.specs.declared.submission.Origin.{Origin}
 use Rattle.mail_plan.specs.declared.submission.Origin.TheVariants as origins

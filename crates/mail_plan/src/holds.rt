@@ -8,7 +8,7 @@ use crate::fields::{Field, bytes_at, gate_at, list_at};
 use crate::places::{Miss, byte_at, u32_at};
 use crate::{End, Hold};
 use mail_names::{Items, Key};
-use org_directory::Tell;
+use moderation::Tell;
 use std::alloc::Global;
 
 fn tell_at(bytes: &[u8], at: usize) -> Result<(Tell, usize), Miss>

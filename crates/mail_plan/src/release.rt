@@ -1,7 +1,7 @@
 // What a submission sends.
 use journal_report::Why;
 use mail_names::{Bytes, Gate, ItemName, Items, Key};
-use org_directory::Tell;
+use moderation::Tell;
 
 /// What an item is.
 #[derive(Clone, Copy, Debug, PartialEq, Eq)]

@@ -8,8 +8,7 @@ ghost use Rattle.mail_plan.specs.EntryText.{le32, le64, form_bytes, form_key_opt
 use crate::{End, Entry, Hold, Item, ItemKind, Origin, Release, Submission};
 use journal_report::Why;
 use mail_names::{ApprovalName, Bytes, Gate, ItemName, Key, Mark, NoMemory};
-use moderation::Verdict;
-use org_directory::Tell;
+use moderation::{Tell, Verdict};
 use std::alloc::Global;
 
 #[tactic(auto, unfolding(crate::specs::EntryText::le64))]

@@ -3,8 +3,10 @@
 
 mod approval;
 pub mod laws;
+mod tell;
 
 pub use approval::{APPROVAL_TIME, Approval, ApprovalState, Decision, Verdict};
+pub use tell::Tell;
 
 #[cfg(test)]
 mod tests;

@@ -19,7 +19,7 @@ use Rattle.org_directory.specs.declared.draft.Line.TheVariants as lines
 use Rattle.org_directory.specs.declared.fault.DirectoryFault.{DirectoryFault}
 use Rattle.org_directory.specs.declared.fault.DirectoryFault.TheVariants as faults
 use Rattle.org_directory.specs.declared.object.Kind.{Kind}
-use Rattle.org_directory.specs.declared.object.Tell.{Tell}
+use Rattle.moderation.specs.declared.tell.Tell.{Tell}
 use Rattle.org_directory.specs.declared.object.Object.{Object}
 use Rattle.org_directory.proofs.Keys.{key_is_itself}
 

@@ -10,8 +10,8 @@ use Rattle.org_directory.specs.declared.draft.Line.{Line}
 use Rattle.org_directory.specs.declared.draft.Line.TheVariants as lines
 use Rattle.org_directory.specs.declared.object.Kind.{Kind}
 use Rattle.org_directory.specs.declared.object.Kind.TheVariants as kinds
-use Rattle.org_directory.specs.declared.object.Tell.{Tell}
-use Rattle.org_directory.specs.declared.object.Tell.TheVariants as tells
+use Rattle.moderation.specs.declared.tell.Tell.{Tell}
+use Rattle.moderation.specs.declared.tell.Tell.TheVariants as tells
 
 -- the field at a place, or no bytes
 abbrev pub column : List (List ℕ) → ℕ → List ℕ

@@ -1,7 +1,8 @@
 // Objects as their records name them, before each key has its place.
 use crate::names::Names;
-use crate::object::{Kind, Tell};
+use crate::object::Kind;
 use mail_names::{Bytes, Items, Key};
+use moderation::Tell;
 
 /// An object whose lists still name keys.
 #[derive(Drop)]

@@ -15,7 +15,7 @@ mod second_pass;
 
 pub use directory::Directory;
 pub use fault::DirectoryFault;
-pub use object::{Kind, Object, Tell};
+pub use object::{Kind, Object};
 
 #[cfg(test)]
 mod tests;

@@ -9,9 +9,10 @@ ghost use Rattle.org_directory.specs.Lines.{answer_in, column, domain_in, fits, 
 
 use crate::draft::{Draft, Line};
 use crate::names::Names;
-use crate::object::{Kind, Tell};
+use crate::object::Kind;
 use csv::ByteRecord;
 use mail_names::{Key, NameFault, NoMemory, lowered};
+use moderation::Tell;
 use std::alloc::Global;
 
 /// The field at a place, or no bytes.

@@ -1,5 +1,6 @@
 // Objects, which name each other by their places.
 use mail_names::{Items, Key};
+use moderation::Tell;
 
 /// What an object is.
 #[derive(Clone, Copy, Debug, PartialEq, Eq)]
@@ -10,17 +11,6 @@ pub enum Kind {
     Contact,
     /// A list of objects.
     Group,
-}
-
-/// Which senders are told that a moderator refused a message, or gave no answer in time.
-#[derive(Clone, Copy, Debug, PartialEq, Eq)]
-pub enum Tell {
-    /// Every sender.
-    Always,
-    /// Senders inside alone.
-    Internal,
-    /// No sender.
-    Never,
 }
 
 /// A mailbox, a contact or a group. It names other objects by their places in the directory.

@@ -6,8 +6,7 @@ use mail_names::{ApprovalName, Bytes, Gate, ItemName, Items, Mark};
 use mail_plan::{
     Entry, FIRST_DIRECTORY, Hold, Opening, Outcome, Release, ReleaseInput, Task, plan,
 };
-use moderation::{Decision, Verdict};
-use org_directory::Tell;
+use moderation::{Decision, Tell, Verdict};
 use std::alloc::Global;
 use std::sync::Arc;
 use std::test::Fail;
