@@ -19,6 +19,3 @@ mod sends;
 
 pub use making::release;
 pub use org::HubOrg;
-
-#[cfg(test)]
-mod tests;

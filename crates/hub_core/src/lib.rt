@@ -13,8 +13,6 @@ mod queue;
 mod remembered;
 mod stage;
 mod state;
-#[cfg(test)]
-mod tests;
 
 pub use asking::Asking;
 pub use command::{Command, Reply, StepFault};

@@ -132,29 +132,6 @@ impl Model for ReleaseInput {
 }
 
 impl ReleaseInput {
-    /// The input of a submission's first release, which acceptance makes. It takes no memory.
-    pub fn first(
-        alloc: Global,
-        number: u64,
-        epoch: u32,
-        accepted_at: u64,
-        submission: Arc<Submission>,
-    ) -> ReleaseInput
-        requires { accepted_at ≤ LAST_MOMENT }
-        ensures { result ≡ first_input number epoch accepted_at (arc_value submission) }
-    {
-        ReleaseInput {
-            number,
-            release: 0,
-            epoch,
-            accepted_at,
-            made: accepted_at,
-            before: None,
-            opened: Items::new(alloc),
-            submission,
-        }
-    }
-
     /// The input of a release of a submission, behind these openings: the first release is that of acceptance, and each
     /// opening makes the next.
     pub fn at(

@@ -32,6 +32,3 @@ pub use text::{
     put_approval_name, put_bytes, put_gate, put_item_name, put_key, put_key_option, put_keys,
     put_origin, put_release, put_why,
 };
-
-#[cfg(test)]
-mod tests;
