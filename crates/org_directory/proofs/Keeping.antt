@@ -8,18 +8,18 @@ use Rattle.std.proofs.lemmas.Iterator.Adapters.{position_from-zero}
 use Rattle.std.specs.Str.{bytes_eq}
 use Rattle.org_directory.specs.Register.{among, is_group}
 use Rattle.mail_names.specs.Key.{lower}
-use Rattle.org_directory.specs.Lines.{answer_in, column, domain_in, fits, has_none, is_domain_name, key_in, keys_in, kind_in, line_of, object_in, object_line, says_nothing, tell_in}
+use Rattle.org_directory.specs.Lines.{answer_in, column, domain_in, fits, has_none, is_domain_name, key_in, keys_in, kind_in, line_of, lists_of, object_in, object_line, says_nothing, tell_in, words_of}
 use Rattle.org_directory.specs.Drafts.{Fits, IsKept}
 use Rattle.csv.specs.Reading.{default_config, records, strip_bom}
 use Rattle.org_directory.specs.Reading.{Taken, and_then, both_passes, entries_of, first_pass, keys_of, none_taken, place_in, placed, register_of, take_line, take_row, Fails}
 use Rattle.org_directory.specs.declared.draft.Draft.{Draft}
 use Rattle.org_directory.specs.declared.draft.Drafts.{Drafts}
 use Rattle.org_directory.specs.declared.draft.Line.{Line}
+use Rattle.org_directory.specs.declared.draft.Lists.{Lists}
+use Rattle.org_directory.specs.declared.draft.Words.{Words}
 use Rattle.org_directory.specs.declared.draft.Line.TheVariants as lines
 use Rattle.org_directory.specs.declared.fault.DirectoryFault.{DirectoryFault}
 use Rattle.org_directory.specs.declared.fault.DirectoryFault.TheVariants as faults
-use Rattle.org_directory.specs.declared.object.Kind.{Kind}
-use Rattle.moderation.specs.declared.tell.Tell.{Tell}
 use Rattle.org_directory.specs.declared.object.Object.{Object}
 use Rattle.org_directory.proofs.Keys.{key_is_itself}
 
@@ -29,19 +29,13 @@ line_fits None = true
 line_fits (Some (lines.Domain name)) = true
 line_fits (Some (lines.Object d)) = fits d.kind d.members d.moderators
 
-object-fits : (row : ℕ) (a : Option (List ℕ)) (b : Option Kind) (c d : Option (List (List ℕ))) (e : Option Bool) (f g : Option (List (List ℕ))) (h : Option Tell)
-    → line_fits (object_in row a b c d e f g h) ≡ true
-object-fits row None b c d e f g h = refl
-object-fits row (Some key) None c d e f g h = refl
-object-fits row (Some key) (Some kind) None d e f g h = refl
-object-fits row (Some key) (Some kind) (Some members) None e f g h = refl
-object-fits row (Some key) (Some kind) (Some members) (Some owners) None f g h = refl
-object-fits row (Some key) (Some kind) (Some members) (Some owners) (Some moderated) None g h = refl
-object-fits row (Some key) (Some kind) (Some members) (Some owners) (Some moderated) (Some moderators) None h = refl
-object-fits row (Some key) (Some kind) (Some members) (Some owners) (Some moderated) (Some moderators) (Some bypass) None = refl
-object-fits row (Some key) (Some kind) (Some members) (Some owners) (Some moderated) (Some moderators) (Some bypass) (Some tell) = by_test (fits kind members moderators) refl
+object-fits : (row : ℕ) (a : Option (List ℕ)) (b : Option Words) (c : Option Lists) → line_fits (object_in row a b c) ≡ true
+object-fits row None b c = refl
+object-fits row (Some key) None c = refl
+object-fits row (Some key) (Some words) None = refl
+object-fits row (Some key) (Some words) (Some lists) = by_test (fits words.kind lists.members lists.moderators) refl
   where
-    by_test : (b : Bool) → fits kind members moderators ≡ b → line_fits (object_in row (Some key) (Some kind) (Some members) (Some owners) (Some moderated) (Some moderators) (Some bypass) (Some tell)) ≡ true
+    by_test : (b : Bool) → fits words.kind lists.members lists.moderators ≡ b → line_fits (object_in row (Some key) (Some words) (Some lists)) ≡ true
     by_test true e = rw e e
     by_test false e = rw e refl
 
@@ -58,8 +52,8 @@ line-fits row fields =
     either (length fields == 8) (if bytes_eq (column fields 1) (codes "domain") then domain_in fields else object_line row fields) None
     (either (bytes_eq (column fields 1) (codes "domain")) (domain_in fields) (object_line row fields)
     (domain-fits (is_domain_name (column fields 0) && says_nothing fields) (lower (column fields 0)))
-    (object-fits row (key_in (column fields 0)) (kind_in (column fields 1)) (keys_in (column fields 2)) (keys_in (column fields 3))
-    (answer_in (column fields 4)) (keys_in (column fields 5)) (keys_in (column fields 6)) (tell_in (column fields 7)))) refl
+    (object-fits row (key_in (column fields 0)) (words_of (kind_in (column fields 1)) (answer_in (column fields 4)) (tell_in (column fields 7)))
+    (lists_of (keys_in (column fields 2)) (keys_in (column fields 3)) (keys_in (column fields 5)) (keys_in (column fields 6))))) refl
 
 pub fits-of : (d : Draft) → fits d.kind d.members d.moderators ≡ true → Fits d
 fits-of d h off = empty d.members (first (is_group d.kind) (has_none d.members) (not (nat_lt 10 (length d.moderators))) h off)

@@ -7,6 +7,8 @@ use Rattle.mail_names.specs.Key.{key_of, is_empty, is_key_byte, lower}
 use Rattle.mail_names.specs.declared.key.NameFault.{NameFault}
 use Rattle.org_directory.specs.Register.{among, is_group}
 use Rattle.org_directory.specs.declared.draft.Line.{Line}
+use Rattle.org_directory.specs.declared.draft.Lists.{Lists}
+use Rattle.org_directory.specs.declared.draft.Words.{Words}
 use Rattle.org_directory.specs.declared.draft.Line.TheVariants as lines
 use Rattle.org_directory.specs.declared.object.Kind.{Kind}
 use Rattle.org_directory.specs.declared.object.Kind.TheVariants as kinds
@@ -86,27 +88,40 @@ has_none (k ∷ ks) = false
 abbrev pub fits : Kind → List (List ℕ) → List (List ℕ) → Bool
 fits kind members moderators = (is_group kind || has_none members) && not (nat_lt 10 (length moderators))
 
-abbrev pub object_in : ℕ → Option (List ℕ) → Option Kind → Option (List (List ℕ)) → Option (List (List ℕ)) → Option Bool → Option (List (List ℕ)) → Option (List (List ℕ)) → Option Tell → Option Line
-object_in row (Some key) (Some kind) (Some members) (Some owners) (Some moderated) (Some moderators) (Some bypass) (Some tell) =
-    if fits kind members moderators
+-- the words of an object's record, where each has its form
+abbrev pub words_of : Option Kind → Option Bool → Option Tell → Option Words
+words_of (Some kind) (Some moderated) (Some tell) = Some (record { kind = kind; moderated = moderated; tell = tell })
+words_of a b c = None
+
+-- and its lists
+abbrev pub lists_of : Option (List (List ℕ)) → Option (List (List ℕ)) → Option (List (List ℕ)) → Option (List (List ℕ)) → Option Lists
+lists_of (Some members) (Some owners) (Some moderators) (Some bypass) =
+    Some (record { members = members; owners = owners; moderators = moderators; bypass = bypass })
+lists_of a b c d = None
+
+-- the object, where all have their form and the lists fit its kind
+abbrev pub object_in : ℕ → Option (List ℕ) → Option Words → Option Lists → Option Line
+object_in row (Some key) (Some words) (Some lists) =
+    if fits words.kind lists.members lists.moderators
     then Some (lines.Object (record {
       row = row;
       key = key;
-      kind = kind;
-      members = members;
-      owners = owners;
-      moderated = moderated;
-      moderators = moderators;
-      bypass = bypass;
-      tell = tell;
+      kind = words.kind;
+      members = lists.members;
+      owners = lists.owners;
+      moderated = words.moderated;
+      moderators = lists.moderators;
+      bypass = lists.bypass;
+      tell = words.tell;
     }))
     else None
-object_in row a b c d e f g h = None
+object_in row a b c = None
 
+-- what an object's record says
 abbrev pub object_line : ℕ → List (List ℕ) → Option Line
 object_line row fields =
-    object_in row (key_in (column fields 0)) (kind_in (column fields 1)) (keys_in (column fields 2)) (keys_in (column fields 3))
-    (answer_in (column fields 4)) (keys_in (column fields 5)) (keys_in (column fields 6)) (tell_in (column fields 7))
+    object_in row (key_in (column fields 0)) (words_of (kind_in (column fields 1)) (answer_in (column fields 4)) (tell_in (column fields 7)))
+    (lists_of (keys_in (column fields 2)) (keys_in (column fields 3)) (keys_in (column fields 5)) (keys_in (column fields 6)))
 
 -- what the record says, or None where it hasn't the form
 abbrev pub line_of : ℕ → List (List ℕ) → Option Line

@@ -19,6 +19,23 @@ pub struct Draft {
     pub tell: Tell,
 }
 
+/// What an object's record says by a word.
+#[derive(Clone, Copy)]
+pub struct Words {
+    pub kind: Kind,
+    pub moderated: bool,
+    pub tell: Tell,
+}
+
+/// What an object's record says by a list of keys.
+#[derive(Drop)]
+pub struct Lists {
+    pub members: Names,
+    pub owners: Names,
+    pub moderators: Names,
+    pub bypass: Names,
+}
+
 /// What a record of the form says.
 #[derive(Drop)]
 pub enum Line {

@@ -5,9 +5,9 @@ ghost use Rattle.std.specs.Str.{bytes_eq};
 ghost use Rattle.csv.specs.Records.{fields_of};
 ghost use Rattle.mail_names.specs.Key.{is_key_byte};
 ghost use Rattle.org_directory.specs.Register.{among};
-ghost use Rattle.org_directory.specs.Lines.{answer_in, column, domain_in, fits, has_none, is_domain_name, is_header, is_name_byte, key_in, keys_in, kind_in, line_of, one_more, object_line, says_nothing, tell_in, Adds};
+ghost use Rattle.org_directory.specs.Lines.{answer_in, column, domain_in, fits, has_none, is_domain_name, is_header, is_name_byte, key_in, keys_in, kind_in, line_of, lists_of, one_more, object_in, object_line, says_nothing, tell_in, words_of, Adds};
 
-use crate::draft::{Draft, Line};
+use crate::draft::{Draft, Line, Lists, Words};
 use crate::names::Names;
 use crate::object::Kind;
 use csv::ByteRecord;
@@ -182,22 +182,27 @@ fn fits(kind: Kind, members: &Names, moderators: &Names) -> bool
     (matches!(kind, Kind::Group) || members.len() == 0) && moderators.len() <= 10
 }
 
-fn read_object(alloc: Global, row: usize, fields: &ByteRecord) -> Result<Option<Line>, NoMemory>
-    ensures { IfOk result (λ line. line ≡ object_line row (fields_of fields.now)) }
+fn read_words(fields: &ByteRecord) -> Option<Words>
+    ensures { result ≡ words_of (kind_in (column (fields_of fields.now) 1)) (answer_in (column (fields_of fields.now) 4)) (tell_in (column (fields_of fields.now) 7)) }
 {
-    let Some(key) = read_key(alloc, column(fields, 0))? else {
-        return Ok(None);
-    };
-    let Some(kind) = read_kind(column(fields, 1)) else {
-        return Ok(None);
-    };
+    let kind = read_kind(column(fields, 1))?;
+    let moderated = read_answer(column(fields, 4))?;
+    let tell = read_tell(column(fields, 7))?;
+    Some(Words {
+        kind,
+        moderated,
+        tell,
+    })
+}
+
+fn read_lists(alloc: Global, fields: &ByteRecord) -> Result<Option<Lists>, NoMemory>
+    ensures { IfOk result (λ lists. lists ≡ lists_of (keys_in (column (fields_of fields.now) 2)) (keys_in (column (fields_of fields.now) 3))
+        (keys_in (column (fields_of fields.now) 5)) (keys_in (column (fields_of fields.now) 6))) }
+{
     let Some(members) = read_keys(alloc, column(fields, 2))? else {
         return Ok(None);
     };
     let Some(owners) = read_keys(alloc, column(fields, 3))? else {
-        return Ok(None);
-    };
-    let Some(moderated) = read_answer(column(fields, 4)) else {
         return Ok(None);
     };
     let Some(moderators) = read_keys(alloc, column(fields, 5))? else {
@@ -206,25 +211,55 @@ fn read_object(alloc: Global, row: usize, fields: &ByteRecord) -> Result<Option<
     let Some(bypass) = read_keys(alloc, column(fields, 6))? else {
         return Ok(None);
     };
-    let Some(tell) = read_tell(column(fields, 7)) else {
-        return Ok(None);
-    };
-    if !fits(kind, &members, &moderators) {
-        return Ok(None);
+    Ok(Some(Lists {
+        members,
+        owners,
+        moderators,
+        bypass,
+    }))
+}
+
+// The object of a record, where its lists fit its kind.
+fn object(row: usize, key: Key, words: Words, lists: Lists) -> Option<Line>
+    ensures { result ≡ object_in row (Some key) (Some words) (Some lists) }
+{
+    let Lists {
+        members,
+        owners,
+        moderators,
+        bypass,
+    } = lists;
+    if !fits(words.kind, &members, &moderators) {
+        return None;
     }
-    Ok(Some(Line::Object {
+    Some(Line::Object {
         draft: Draft {
             row,
             key,
-            kind,
+            kind: words.kind,
             members,
             owners,
-            moderated,
+            moderated: words.moderated,
             moderators,
             bypass,
-            tell,
+            tell: words.tell,
         },
-    }))
+    })
+}
+
+fn read_object(alloc: Global, row: usize, fields: &ByteRecord) -> Result<Option<Line>, NoMemory>
+    ensures { IfOk result (λ line. line ≡ object_line row (fields_of fields.now)) }
+{
+    let Some(words) = read_words(fields) else {
+        return Ok(None);
+    };
+    let Some(key) = read_key(alloc, column(fields, 0))? else {
+        return Ok(None);
+    };
+    let Some(lists) = read_lists(alloc, fields)? else {
+        return Ok(None);
+    };
+    Ok(object(row, key, words, lists))
 }
 
 /// What the record says, or None where it hasn't the form.
