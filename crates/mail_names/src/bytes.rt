@@ -44,6 +44,13 @@ impl Bytes {
         }
     }
 
+    /// No bytes, of the same allocator. It takes no memory.
+    pub fn fresh(&self) -> Bytes
+        ensures { result ≡ [] }
+    {
+        Bytes::new(*self.bytes.allocator())
+    }
+
     /// A copy of these bytes.
     pub fn of(alloc: Global, bytes: &[u8]) -> Result<Bytes, NoMemory>
         ensures { IfOk result (λ b. b ≡ bytes.now) }

@@ -16,6 +16,7 @@ mod read;
 mod release;
 mod submission;
 mod text;
+mod writers;
 
 pub use entry::Entry;
 pub use input::{Opening, ReleaseInput, made_at};
@@ -28,7 +29,7 @@ pub use read::{
 };
 pub use release::{End, Hold, Item, ItemKind, Release};
 pub use submission::{MOST_RECIPIENTS, Origin, Submission, SubmissionFault};
-pub use text::{
+pub use writers::{
     put_approval_name, put_bytes, put_gate, put_item_name, put_key, put_key_option, put_keys,
     put_origin, put_release, put_why,
 };
