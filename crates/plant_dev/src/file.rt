@@ -200,6 +200,3 @@ impl<R: Files + Drop> Plant for FilePlant<R> {
         }
     }
 }
-
-#[cfg(test)]
-mod tests;

@@ -223,6 +223,3 @@ impl Plant for MemoryPlant {
         }
     }
 }
-
-#[cfg(test)]
-mod tests;

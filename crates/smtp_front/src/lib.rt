@@ -10,8 +10,6 @@ mod react;
 mod reply;
 mod session_end;
 mod talk;
-#[cfg(test)]
-mod tests;
 mod texts;
 mod verb;
 
