@@ -43,6 +43,7 @@ def rule_cases():
     yield "a key besides rule and journal", b"rules = []\n", *fault(1)
     yield "a rule that is one table", b'[rule]\nname = "a"\n', *fault(1)
     yield "rules in an array", b"rule = []\njournal = []\n", *good
+    yield "a rule without a name", b"[[rule]]\n", *fault(3)
     yield "100 rules", rule(b"") * 100, *good
     yield "101 rules", rule(b"") * 101, *fault(7)
     yield "101 journal rules behind a bad rule", b"[[rule]]\n" + journal(b'mailbox = "bob@example.com"') * 101, *fault(7)

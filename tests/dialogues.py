@@ -83,10 +83,35 @@ def ends():
     yield "a part of a dot line", START + b"QUIT\r\n.\r", GREETING + STARTED, 7
 
 
+def other_words():
+    """How often words that are no command aren't answered with the usage line, or leave something in the folder."""
+    usage = b"usage: transport_cli session|turn [--workers N]|admin|check|make N [--workers W]\n"
+    failed = 0
+    for words in ([], ["turn", "--workers", "17"], ["session", "session"]):
+        with tempfile.TemporaryDirectory() as folder:
+            run = subprocess.run([PROGRAM, *words], input=b"", capture_output=True, cwd=folder, timeout=60)
+            left = list(pathlib.Path(folder).iterdir())
+        if (run.stdout, run.returncode, left) != (usage, 1, []):
+            failed += 1
+            print(f"dialogues: {words}: {run}, left {left}")
+    return failed
+
+
+def empty_log():
+    """How often a session without a message leaves another log than one without an entry."""
+    with tempfile.TemporaryDirectory() as folder:
+        subprocess.run([PROGRAM, "session"], input=b"HELO c", capture_output=True, cwd=folder, timeout=60)
+        subprocess.run([PROGRAM, "session"], input=b"", capture_output=True, cwd=folder, timeout=60)
+        log = pathlib.Path(folder, "hub/queue.log").read_bytes()
+    if log != b"MAILHUB1\0":
+        print(f"dialogues: the log without an entry is {log!r}")
+    return int(log != b"MAILHUB1\0")
+
+
 def main():
     if not PROGRAM.exists():
         sys.exit(f"dialogues: {PROGRAM.relative_to(ROOT)} isn't built")
-    failed = 0
+    failed = other_words() + empty_log()
     for name, sent, told, status in [*transcripts(), recipients(), long_lines(), unreadable(), repeats(), *contents(), *ends()]:
         with tempfile.TemporaryDirectory() as folder:
             run = subprocess.run([PROGRAM, "session"], input=sent, capture_output=True, cwd=folder, timeout=60)

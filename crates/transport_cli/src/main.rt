@@ -1,11 +1,8 @@
 //! A mail hub: an SMTP session in, a log file and items in folders out.
 #![tactic(auto)]
 
-mod status;
-mod transport;
-
-use crate::transport::{is_session, transport};
 use mail_names::Bytes;
+use mail_transport::{is_session, transport};
 use plant_dev::{FilePlant, FilePlantFault, MemoryPlant, Plant};
 use port_io::{ReaderSource, StdClock, WriterSink};
 use std::alloc::AllocError;
@@ -66,12 +63,3 @@ fn main(rt: HostRuntime) -> ExitCode {
         Err(_) => ExitCode::from(2),
     }
 }
-
-#[cfg(test)]
-mod journal_tests;
-#[cfg(test)]
-mod moderation_tests;
-#[cfg(test)]
-mod rules_tests;
-#[cfg(test)]
-mod tests;

@@ -1,28 +1,23 @@
-// The whole program over any source, sink, plant and clock.
-ghost use Rattle.std.specs.Prelude.{◌≡◌, ◌⊎◌, ◌≤◌, ℕ, List, [], ◌∷◌, ◌++◌, Bool, true, false, map, IsTrue};
-ghost use Rattle.std.specs.Io.KnownBytes.{Appends};
+// The command `session` over any source, sink, plant and clock.
+ghost use Rattle.std.specs.Prelude.{◌≡◌, ◌⊎◌, List, map, IsTrue};
 ghost use Rattle.port_io.specs.Causes.{Rose};
 ghost use Rattle.mail_plan.specs.declared.entry.Entry.{Entry};
 ghost use Rattle.plant_dev.specs.Disk.{Stays};
-ghost use Rattle.transport_cli.specs.HubSetup.{hub_setup};
+ghost use Rattle.mail_transport.specs.HubSetup.{hub_setup};
 ghost use Rattle.queue_store.specs.Stands.{Stands};
 ghost use Rattle.queue_store.specs.Ready.{IsReady};
 ghost use Rattle.smtp_front.specs.Sessions.{Spoke};
-ghost use Rattle.transport_cli.specs.Answers.{HistoryGives};
-ghost use Rattle.transport_cli.specs.Run.{Checked, Ends, Finishes, Ran, is_check, is_session, usage_text};
+ghost use Rattle.mail_transport.specs.Answers.{HistoryGives};
+ghost use Rattle.mail_transport.specs.Run.{Ends, Finishes, Ran, is_session};
 
-use crate::status::{Status, checked, ended, fault_status};
+use crate::status::{Status, ended, fault_status};
 use hub_core::Limits;
 use hub_planner::HubPlanner;
-use org_check::check;
 use plant_dev::Plant;
-use port_io::{Clock, Sink, Source, write_all_to};
+use port_io::{Clock, Sink, Source};
 use queue_store::{Hub, LocalOffice};
 use smtp_front::{SessionEnd, session};
 use std::alloc::Global;
-
-const USAGE: &[u8] =
-    b"usage: transport_cli session|turn [--workers N]|admin|check|make N [--workers W]\n";
 
 // A session on a hub and a plant that are lent.
 fn speak<P: Plant, S: Source, K: Sink, C: Clock>(
@@ -113,8 +108,8 @@ fn follow<P: Plant, C: Clock>(
     }
 }
 
-// Opens the hub, runs a session, and then tries what waits.
-fn run_session<P: Plant, S: Source, K: Sink, C: Clock>(
+/// Opens the hub, runs a session, and then tries what waits.
+pub fn run_session<P: Plant, S: Source, K: Sink, C: Clock>(
     alloc: Global,
     source: &mut S,
     sink: &mut K,
@@ -148,74 +143,5 @@ pub fn is_session(words: &[&str]) -> bool
     match words {
         [word] => *word == "session",
         _ => false,
-    }
-}
-
-/// Whether the words are the command `check`.
-pub fn is_check(words: &[&str]) -> bool
-    ensures { result ≡ is_check (map (λ word. word.now) words.now) }
-{
-    match words {
-        [word] => *word == "check",
-        _ => false,
-    }
-}
-
-// Checks the organisation that the source has.
-fn run_check<S: Source, K: Sink>(alloc: Global, source: &mut S, sink: &mut K) -> Status
-    ensures checked { Checked (S.left source.old) (S.left source.new) (K.taken sink.old) (K.taken sink.new) result }
-    ensures disk { result ≡ Status.DiskFault → ⊥ }
-    ensures log { result ≡ Status.NotALog → ⊥ }
-    ensures source { result ≡ Status.SourceFault → Rose (S.faults source.old) (S.faults source.new) }
-    ensures sink { result ≡ Status.SinkFault → Rose (K.faults sink.old) (K.faults sink.new) }
-    ensures usage { result ≡ Status.Usage → ⊥ }
-{
-    checked(check(alloc, source, sink))
-}
-
-/// Runs a command. The words are without the program's name.
-///
-/// `session` opens the hub, runs one SMTP session from source to sink, and then categorises all that was accepted and
-/// makes one turn. `check` reads an organisation from the source and prints `ok` or its first fault; it touches no plant.
-/// Other words are no command yet, and are answered with the usage line.
-pub fn transport<S: Source, K: Sink, P: Plant, C: Clock>(
-    alloc: Global,
-    words: &[&str],
-    source: &mut S,
-    sink: &mut K,
-    plant: &mut P,
-    clock: &mut C,
-) -> Status
-    // Where no disk fault is counted, a session over an honest plant that stands for a history does what the definitions
-    // say from there, and the plant stands for the history that it leaves.
-    ensures session { (h : List Entry) → is_session (map (λ word. word.now) words.now) ≡ true → IsTrue (P.state plant.old).honest → Stands hub_setup (P.state plant.old).image h →
-        (Rose (P.state plant.old).disk_faults (P.state plant.new).disk_faults → ⊥) →
-        (result ≡ Status.NoMemory) ⊎ Ran h (C.moments clock.old) (C.moments clock.new) (K.taken sink.old) (K.taken sink.new) (S.left source.old) (S.left source.new)
-        (P.state plant.old).shelf_faults (P.state plant.new).shelf_faults (P.state plant.new).image result }
-    // Nor is a log told as none where the plant stands for a history.
-    ensures log { (h : List Entry) → IsTrue (P.state plant.old).honest → Stands hub_setup (P.state plant.old).image h →
-        (Rose (P.state plant.old).disk_faults (P.state plant.new).disk_faults → ⊥) → result ≡ Status.NotALog → ⊥ }
-    // A check says what its definition says.
-    ensures check { is_check (map (λ word. word.now) words.now) ≡ true →
-        Checked (S.left source.old) (S.left source.new) (K.taken sink.old) (K.taken sink.new) result }
-    ensures untouched { is_session (map (λ word. word.now) words.now) ≡ false → plant.new ≡ plant.old }
-    ensures usage { result ≡ Status.Usage → (is_session (map (λ word. word.now) words.now) ≡ false) × (is_check (map (λ word. word.now) words.now) ≡ false) }
-    ensures usage_text { result ≡ Status.Usage → Appends (K.taken sink.old) (K.taken sink.new) usage_text }
-    ensures other { is_session (map (λ word. word.now) words.now) ≡ false → is_check (map (λ word. word.now) words.now) ≡ false → (result ≡ Status.Usage) ⊎ (result ≡ Status.SinkFault) }
-
-    // A fault of an end is answered only where its count rose.
-    ensures disk { result ≡ Status.DiskFault → Rose (P.state plant.old).disk_faults (P.state plant.new).disk_faults }
-    ensures source { result ≡ Status.SourceFault → Rose (S.faults source.old) (S.faults source.new) }
-    ensures sink { result ≡ Status.SinkFault → Rose (K.faults sink.old) (K.faults sink.new) }
-{
-    if is_session(words) {
-        return run_session(alloc, source, sink, plant, clock);
-    }
-    if is_check(words) {
-        return run_check(alloc, source, sink);
-    }
-    match write_all_to(sink, USAGE) {
-        Ok(()) => Status::Usage,
-        Err(_) => Status::SinkFault,
     }
 }

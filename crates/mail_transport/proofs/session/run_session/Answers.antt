@@ -5,9 +5,9 @@ use Rattle.hub_core.specs.Items.{IsHistory}
 use Rattle.categorizer.specs.Meaning.{hub_means}
 use Rattle.queue_store.specs.Stands.{Stands}
 use Rattle.queue_store.specs.Ready.{IsReady}
-use Rattle.transport_cli.proofs.Never.{ran_never, memory≢log}
-use Rattle.transport_cli.proofs.Running.{rose_within, ends_within}
-use Rattle.transport_cli.proofs.transport.run_session.Goals as goal
+use Rattle.mail_transport.proofs.Never.{ran_never, memory≢log}
+use Rattle.mail_transport.proofs.Running.{rose_within, ends_within}
+use Rattle.mail_transport.proofs.session.run_session.Goals as goal
 
 pub returns-in-Err-clause-ran : goal.returns-in-Err-clause-ran
 returns-in-Err-clause-ran g c h honest stands quiet =

@@ -20,8 +20,8 @@ use Rattle.smtp_front.specs.declared.session_end.SessionEnd.TheVariants as ends
 use Rattle.smtp_front.specs.Events.{Held, nothing, fed}
 use Rattle.smtp_front.specs.Turns.{Turn, Steps, Did}
 use Rattle.smtp_front.specs.Sessions.{Stays, Waits, Closes, Begins, Halts, Breaks, WentOn, Greets, Spoke}
-use Rattle.transport_cli.specs.Answers.{HistoryGives}
-use Rattle.transport_cli.specs.HubSetup.{hub_setup}
+use Rattle.mail_transport.specs.Answers.{HistoryGives}
+use Rattle.mail_transport.specs.HubSetup.{hub_setup}
 
 rose_later : (a m b : ℕ) → Rose a m → m ≤ b → Rose a b
 rose_later a m b rose later = omega (arith, rose, later)

@@ -15,10 +15,10 @@ use Rattle.smtp_front.specs.Events.{Held, next_of}
 use Rattle.smtp_front.specs.React.{react}
 use Rattle.smtp_front.specs.Turns.{Turn, Steps, Goes, asks, asked, behind, end_of}
 use Rattle.smtp_front.specs.Sessions.{Spoke}
-use Rattle.transport_cli.specs.declared.status.Status.{Status}
-use Rattle.transport_cli.specs.declared.status.Status.TheVariants as statuses
-use Rattle.transport_cli.specs.Answers.{HistoryGives}
-use Rattle.transport_cli.specs.Run.{Ends, Ran}
+use Rattle.mail_transport.specs.declared.status.Status.{Status}
+use Rattle.mail_transport.specs.declared.status.Status.TheVariants as statuses
+use Rattle.mail_transport.specs.Answers.{HistoryGives}
+use Rattle.mail_transport.specs.Run.{Ends, Ran}
 
 none_ends : (end : SessionEnd) → None ≡ Some end → ⊥
 none_ends end e = cc

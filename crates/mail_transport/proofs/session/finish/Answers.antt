@@ -3,10 +3,10 @@ use Rattle.mail_plan.specs.declared.entry.Entry.{Entry}
 use Rattle.hub_core.specs.Standing.{Standing, standing, usual}
 use Rattle.queue_store.specs.Calls.{after_entries, entries_categorise, entries_turn}
 use Rattle.queue_store.proofs.Offered.{adds-along, stops-along, state-goes, adds-joined, stops-joined, stops-more}
-use Rattle.transport_cli.specs.HubSetup.{hub_setup}
-use Rattle.transport_cli.specs.Run.{entries_finish}
-use Rattle.transport_cli.proofs.Running.{rose_within, cut_status}
-use Rattle.transport_cli.proofs.transport.finish.Goals as goal
+use Rattle.mail_transport.specs.HubSetup.{hub_setup}
+use Rattle.mail_transport.specs.Run.{entries_finish}
+use Rattle.mail_transport.proofs.Running.{rose_within, cut_status}
+use Rattle.mail_transport.proofs.session.finish.Goals as goal
 
 pub returns-in-Err-clause-finishes : goal.returns-in-Err-clause-finishes
 returns-in-Err-clause-finishes g c h ready quiet =

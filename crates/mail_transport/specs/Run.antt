@@ -17,10 +17,10 @@ use Rattle.smtp_front.specs.Sessions.{Spoke}
 use Rattle.org_check.specs.declared.checking.CheckEnd.{CheckEnd}
 use Rattle.org_check.specs.declared.checking.CheckEnd.TheVariants as checks
 use Rattle.org_check.specs.Check.{Checks}
-use Rattle.transport_cli.specs.declared.status.Status.{Status}
-use Rattle.transport_cli.specs.declared.status.Status.TheVariants as statuses
-use Rattle.transport_cli.specs.Answers.{HistoryGives}
-use Rattle.transport_cli.specs.HubSetup.{hub_setup}
+use Rattle.mail_transport.specs.declared.status.Status.{Status}
+use Rattle.mail_transport.specs.declared.status.Status.TheVariants as statuses
+use Rattle.mail_transport.specs.Answers.{HistoryGives}
+use Rattle.mail_transport.specs.HubSetup.{hub_setup}
 
 -- All is categorised, and then comes a turn at this clock, in which the puts went so.
 abbrev pub entries_finish : Standing → ℕ → List Bool → List Entry

@@ -1,5 +1,5 @@
-use Rattle.transport_cli.proofs.Telling.{spoke_told, spoke_keeps, spoke_stays}
-use Rattle.transport_cli.proofs.transport.speak.Goals as goal
+use Rattle.mail_transport.proofs.Telling.{spoke_told, spoke_keeps, spoke_stays}
+use Rattle.mail_transport.proofs.session.speak.Goals as goal
 
 pub returns-clause-same : goal.returns-clause-same
 returns-clause-same g c = (

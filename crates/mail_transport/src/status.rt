@@ -1,6 +1,6 @@
 // How a call of the program ends.
 ghost use Rattle.std.specs.Prelude.{◌≡◌};
-ghost use Rattle.transport_cli.specs.Run.{fault_status, status_of, status_of_check};
+ghost use Rattle.mail_transport.specs.Run.{fault_status, status_of, status_of_check};
 
 use org_check::CheckEnd;
 use queue_store::HubFault;

@@ -11,10 +11,10 @@ use Rattle.queue_store.specs.Calls.{misses}
 use Rattle.queue_store.specs.Ready.{Kept, Stops}
 use Rattle.smtp_front.specs.declared.session_end.SessionEnd.{SessionEnd}
 use Rattle.smtp_front.specs.declared.session_end.SessionEnd.TheVariants as ends
-use Rattle.transport_cli.specs.declared.status.Status.{Status}
-use Rattle.transport_cli.specs.declared.status.Status.TheVariants as statuses
-use Rattle.transport_cli.specs.HubSetup.{hub_setup}
-use Rattle.transport_cli.specs.Run.{entries_finish, CutShort, Starved, Overfull, Finishes, Ends, fault_status}
+use Rattle.mail_transport.specs.declared.status.Status.{Status}
+use Rattle.mail_transport.specs.declared.status.Status.TheVariants as statuses
+use Rattle.mail_transport.specs.HubSetup.{hub_setup}
+use Rattle.mail_transport.specs.Run.{entries_finish, CutShort, Starved, Overfull, Finishes, Ends, fault_status}
 
 -- a rise within a longer time
 pub rose_within : (a b c d : ℕ) → a ≤ b → c ≤ d → Rose b c → Rose a d

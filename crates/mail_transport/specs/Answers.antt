@@ -7,7 +7,7 @@ use Rattle.mail_plan.specs.declared.intake.IntakeStep.TheVariants as steps
 use Rattle.hub_core.specs.Standing.{standing}
 use Rattle.queue_store.specs.Room.{Fits, IsFull}
 use Rattle.queue_store.specs.Calls.{entries_submit, IsAccepted, IsQueueFull}
-use Rattle.transport_cli.specs.HubSetup.{hub_setup}
+use Rattle.mail_transport.specs.HubSetup.{hub_setup}
 
 -- A submission is answered as the history says, and its entry stands behind it. One that is refused adds nothing: the
 -- queue is full, or the log has no room for its entry, or memory ran out.
