@@ -12,6 +12,3 @@ pub use parts::{Line, Report, ReportHead};
 pub use reading::{ReportFault, read_report};
 pub use why::{Why, add_why_text};
 pub use writing::report;
-
-#[cfg(test)]
-mod tests;

@@ -20,6 +20,3 @@ pub use items::Items;
 pub use key::{Key, NameFault, copied_keys, lowered};
 pub use name::{ApprovalName, ItemName, Mark, mark_number, same_name};
 pub use steps::Steps;
-
-#[cfg(test)]
-mod tests;

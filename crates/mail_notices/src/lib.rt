@@ -8,6 +8,3 @@ mod text;
 
 pub use kinds::{About, Notice};
 pub use text::notice;
-
-#[cfg(test)]
-mod tests;

@@ -7,6 +7,3 @@ mod tell;
 
 pub use approval::{APPROVAL_TIME, Approval, ApprovalState, Decision, Verdict};
 pub use tell::Tell;
-
-#[cfg(test)]
-mod tests;
