@@ -6,4 +6,5 @@ pub mod History
 pub mod Replay
 pub mod Failures
 pub mod MemoryState
+pub mod MemoryFailures
 pub mod Silent

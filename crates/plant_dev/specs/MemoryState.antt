@@ -1,5 +1,5 @@
 -- What contracts see of a plant in memory.
-use Rattle.std.specs.Prelude.{ℕ, List, drop, reverse}
+use Rattle.std.specs.Prelude.{ℕ, List, reverse}
 use Rattle.plant_dev.specs.declared.memory.MemoryPlant.{MemoryPlant}
 use Rattle.plant_dev.specs.declared.failures.FolderPlan.{FolderPlan}
 use Rattle.plant_dev.specs.Disk.{State}
@@ -18,7 +18,7 @@ starved_of p = p.starved
 
 -- a byte for each call to come: it fails where the byte is 1, and behind the last none does
 abbrev pub calls_ahead : MemoryPlant → List ℕ
-calls_ahead p = drop p.failures.next p.failures.calls
+calls_ahead p = p.failures.calls
 
 -- how folders fail, the newest plan first
 abbrev pub folder_plans : MemoryPlant → List FolderPlan

@@ -1,8 +1,9 @@
 // The failures that are planned for a plant in memory.
-ghost use Rattle.std.specs.Prelude.{◌≡◌, ◌∷◌, [], drop, reverse, OnOk, OnErr};
-ghost use Rattle.plant_dev.specs.Failures.{next_fails, failing_by};
+ghost use Rattle.std.specs.Prelude.{◌≡◌, ◌∷◌, [], reverse, OnOk, OnErr};
+ghost use Rattle.plant_dev.specs.Failures.{failing_by};
 
-use mail_names::{Bytes, Key, NoMemory};
+use mail_names::{Key, NoMemory};
+use port_io::PlannedCalls;
 use std::alloc::Global;
 
 /// How puts into a folder fail.
@@ -24,9 +25,7 @@ pub struct FolderPlan {
 
 #[derive(Drop)]
 pub struct Failures {
-    // call k fails where byte k is 1
-    pub calls: Bytes,
-    pub next: usize,
+    pub calls: PlannedCalls,
     // of two for a folder the newest counts
     pub folders: Vec<FolderPlan>,
 }
@@ -37,32 +36,15 @@ impl Failures {
         ensures folders { result.folders.items ≡ [] }
     {
         Failures {
-            calls: Bytes::new(alloc),
-            next: 0,
+            calls: PlannedCalls::none(alloc),
             folders: Vec::new(alloc),
-        }
-    }
-
-    /// Whether the next call fails. The one after it comes next.
-    pub fn next_call(&mut self) -> bool
-        ensures answer { result ≡ next_fails (drop self.old.next self.old.calls) }
-        ensures ahead { drop self.new.next self.new.calls ≡ drop 1 (drop self.old.next self.old.calls) }
-        ensures folders { self.new.folders ≡ self.old.folders }
-    {
-        match self.calls.as_slice().get(self.next) {
-            Some(byte) => {
-                let fails = *byte == 1;
-                self.next += 1;
-                fails
-            }
-            None => false,
         }
     }
 
     pub fn plan_folder(&mut self, alloc: Global, folder: &Key, how: Failing) -> Result<(), NoMemory>
         ensures ok { OnOk result (reverse self.new.folders.items ≡ record { folder = folder.now; how = how } ∷ reverse self.old.folders.items) }
         ensures err { OnErr result (self.new.folders.items ≡ self.old.folders.items) }
-        ensures ahead { drop self.new.next self.new.calls ≡ drop self.old.next self.old.calls }
+        ensures calls { self.new.calls ≡ self.old.calls }
     {
         let folder = folder.copy(alloc)?;
         self.folders.push(FolderPlan { folder, how })?;

@@ -3,7 +3,7 @@ use crate::failures::{Failing, Failures};
 use crate::history::History;
 use crate::{Plant, ShelfFault};
 use mail_names::{Bytes, ItemName, Key, NoMemory};
-use port_io::Failed;
+use port_io::{Failed, PlannedCalls};
 use std::alloc::Global;
 
 /// A plant in memory, which keeps the disk model, tells its shelf, and keeps a record of its calls for the
@@ -73,8 +73,7 @@ impl MemoryPlant {
         ensures calls { calls_ahead self.new ≡ fails }
         ensures folders { folder_plans self.new ≡ folder_plans self.old }
     {
-        self.failures.calls = fails;
-        self.failures.next = 0;
+        self.failures.calls = PlannedCalls::of(fails);
     }
 
     /// From now on puts into this folder fail so.
@@ -97,10 +96,16 @@ impl MemoryPlant {
 }
 
 impl Plant for MemoryPlant {
-    ghost use Rattle.std.specs.Prelude.{refl};
+    ghost use Rattle.std.specs.Prelude.{◌≡◌, ◌≤◌, ◌<◌, ◌+◌, ◌^◌, length, refl, false, IsTrue, IsErr, IsErrOf, IfOk, OnOk, OnErr};
+    ghost use Rattle.port_io.specs.Causes.{Rose};
+    ghost use Rattle.port_io.specs.Planned.{next_fails};
+    ghost use Rattle.plant_dev.specs.Disk.{Stays, Reads, Writes, Holds, Gives, Durable, Shelves, Settles};
+    ghost use Rattle.plant_dev.specs.Shelf.{PutBy, item_of, Tells, IsTold, HasAnswer, FetchAnswer, ListAnswer};
+    ghost use Rattle.plant_dev.specs.Failures.{failing_by};
     ghost use Rattle.plant_dev.specs.History.{first_of, image_of, past_of};
     ghost use Rattle.plant_dev.specs.MemoryLaws.{memory_is_image, memory_counts_now};
-    ghost use Rattle.plant_dev.specs.MemoryState.{state_of};
+    ghost use Rattle.plant_dev.specs.MemoryState.{state_of, calls_ahead, folder_plans};
+    ghost use Rattle.plant_dev.specs.MemoryFailures.{FileFailsAsPlanned, ShelfFailsAsPlanned, PutsAsPlanned};
 
     ghost state = { state_of };
 
@@ -110,16 +115,36 @@ impl Plant for MemoryPlant {
 
     ghost tells_truth = { λ p. refl };
 
-    fn length(&mut self) -> Result<u64, Failed> {
-        if self.failures.next_call() {
+    fn length(&mut self) -> Result<u64, Failed>
+        ensures stays { Stays (state_of self.old) (state_of self.new) }
+        ensures told { (state_of self.new).told_shelf ≡ (state_of self.old).told_shelf }
+        ensures cause { OnErr result (Rose (state_of self.old).disk_faults (state_of self.new).disk_faults) }
+        ensures reads { IsTrue (state_of self.old).honest → Reads (state_of self.old) (state_of self.new) }
+        ensures answer { IsTrue (state_of self.old).honest → IfOk result (λ n. n ≡ length (state_of self.old).image.file) }
+
+        ensures as_planned { FileFailsAsPlanned self.old self.new result }
+        ensures planned_only { IsErr result → IsTrue (next_fails (calls_ahead self.old)) }
+    {
+        if self.failures.calls.next() {
             self.disk_faults = self.disk_faults.saturating_add(1);
             return Err(Failed);
         }
         Ok(self.history.file.len() as u64)
     }
 
-    fn read(&mut self, at: u64, into: &mut [u8]) -> Result<usize, Failed> {
-        if self.failures.next_call() {
+    fn read(&mut self, at: u64, into: &mut [u8]) -> Result<usize, Failed>
+        requires { 0 < length into.old }
+        ensures stays { Stays (state_of self.old) (state_of self.new) }
+        ensures told { (state_of self.new).told_shelf ≡ (state_of self.old).told_shelf }
+        ensures cause { OnErr result (Rose (state_of self.old).disk_faults (state_of self.new).disk_faults) }
+        ensures count { IfOk result (λ n. n ≤ length into.new) }
+        ensures reads { IsTrue (state_of self.old).honest → Reads (state_of self.old) (state_of self.new) }
+        ensures answer { IsTrue (state_of self.old).honest → IfOk result (Gives (state_of self.old).image.file at into.new) }
+
+        ensures as_planned { FileFailsAsPlanned self.old self.new result }
+        ensures planned_only { IsErr result → IsTrue (next_fails (calls_ahead self.old)) }
+    {
+        if self.failures.calls.next() {
             self.disk_faults = self.disk_faults.saturating_add(1);
             return Err(Failed);
         }
@@ -133,8 +158,18 @@ impl Plant for MemoryPlant {
         Ok(count)
     }
 
-    fn write_at(&mut self, at: u64, bytes: &[u8]) -> Result<(), Failed> {
-        if !self.failures.next_call() {
+    fn write_at(&mut self, at: u64, bytes: &[u8]) -> Result<(), Failed>
+        requires { at + length bytes.now < 2 ^ 64 }
+        ensures stays { Stays (state_of self.old) (state_of self.new) }
+        ensures told { (state_of self.new).told_shelf ≡ (state_of self.old).told_shelf }
+        ensures cause { OnErr result (Rose (state_of self.old).disk_faults (state_of self.new).disk_faults) }
+        ensures writes { IsTrue (state_of self.old).honest → Writes at bytes.now (state_of self.old) (state_of self.new) }
+        ensures written { IsTrue (state_of self.old).honest → OnOk result (Holds at bytes.now (state_of self.new).image.file) }
+
+        ensures as_planned { FileFailsAsPlanned self.old self.new result }
+        ensures refused { OnErr result (Reads (state_of self.old) (state_of self.new)) }
+    {
+        if !self.failures.calls.next() {
             match self.history.write(self.alloc, at, bytes) {
                 Ok(()) => return Ok(()),
                 Err(NoMemory) => self.starved = self.starved.saturating_add(1),
@@ -144,8 +179,16 @@ impl Plant for MemoryPlant {
         Err(Failed)
     }
 
-    fn sync(&mut self) -> Result<(), Failed> {
-        if !self.failures.next_call() {
+    fn sync(&mut self) -> Result<(), Failed>
+        ensures stays { Stays (state_of self.old) (state_of self.new) }
+        ensures told { (state_of self.new).told_shelf ≡ (state_of self.old).told_shelf }
+        ensures cause { OnErr result (Rose (state_of self.old).disk_faults (state_of self.new).disk_faults) }
+        ensures reads { IsTrue (state_of self.old).honest → Reads (state_of self.old) (state_of self.new) }
+        ensures durable { IsTrue (state_of self.old).honest → OnOk result (Durable (state_of self.new)) }
+
+        ensures as_planned { FileFailsAsPlanned self.old self.new result }
+    {
+        if !self.failures.calls.next() {
             match self.history.sync() {
                 Ok(()) => return Ok(()),
                 Err(NoMemory) => self.starved = self.starved.saturating_add(1),
@@ -161,8 +204,17 @@ impl Plant for MemoryPlant {
         folder: &Key,
         name: &ItemName,
         bytes: &[u8],
-    ) -> Result<(), ShelfFault> {
-        if self.failures.next_call() {
+    ) -> Result<(), ShelfFault>
+        ensures stays { Stays (state_of self.old) (state_of self.new) }
+        ensures told { Tells (PutBy result (item_of folder.now name.now bytes.now)) (state_of self.old).told_shelf (state_of self.new).told_shelf }
+        ensures cause { IsErrOf result ShelfFault.Failed → Rose (state_of self.old).shelf_faults (state_of self.new).shelf_faults }
+        ensures puts { IsTrue (state_of self.old).honest → Shelves (PutBy result (item_of folder.now name.now bytes.now)) (state_of self.old) (state_of self.new) }
+
+        ensures as_planned { ShelfFailsAsPlanned self.old self.new result }
+        ensures refused { IsTrue (next_fails (calls_ahead self.old)) → Reads (state_of self.old) (state_of self.new) }
+        ensures by_folder { next_fails (calls_ahead self.old) ≡ false → PutsAsPlanned (failing_by (folder_plans self.old) folder.now) (item_of folder.now name.now bytes.now) result (state_of self.old) (state_of self.new) }
+    {
+        if self.failures.calls.next() {
             self.shelf_faults = self.shelf_faults.saturating_add(1);
             return Err(ShelfFault::Failed);
         }
@@ -185,8 +237,19 @@ impl Plant for MemoryPlant {
         }
     }
 
-    fn has(&mut self, folder: &Key, name: &ItemName) -> Result<bool, ShelfFault> {
-        if self.failures.next_call() {
+    fn has(&mut self, folder: &Key, name: &ItemName) -> Result<bool, ShelfFault>
+        ensures stays { Stays (state_of self.old) (state_of self.new) }
+        ensures told { (state_of self.new).told_shelf ≡ (state_of self.old).told_shelf }
+        ensures told_answer { IsTold (HasAnswer folder.now name.now result) (state_of self.old).told_shelf }
+        ensures cause { IsErrOf result ShelfFault.Failed → Rose (state_of self.old).shelf_faults (state_of self.new).shelf_faults }
+        ensures reads { IsTrue (state_of self.old).honest → Reads (state_of self.old) (state_of self.new) }
+        ensures answer { IsTrue (state_of self.old).honest → HasAnswer folder.now name.now result (state_of self.old).image.shelf }
+        ensures settles { IsTrue (state_of self.old).honest → OnOk result (Settles folder.now name.now (state_of self.new)) }
+
+        ensures as_planned { ShelfFailsAsPlanned self.old self.new result }
+        ensures planned_only { IsErr result → IsTrue (next_fails (calls_ahead self.old)) }
+    {
+        if self.failures.calls.next() {
             self.shelf_faults = self.shelf_faults.saturating_add(1);
             return Err(ShelfFault::Failed);
         }
@@ -198,8 +261,18 @@ impl Plant for MemoryPlant {
         alloc: Global,
         folder: &Key,
         name: &ItemName,
-    ) -> Result<Option<Bytes>, ShelfFault> {
-        if self.failures.next_call() {
+    ) -> Result<Option<Bytes>, ShelfFault>
+        ensures stays { Stays (state_of self.old) (state_of self.new) }
+        ensures told { (state_of self.new).told_shelf ≡ (state_of self.old).told_shelf }
+        ensures told_answer { IsTold (FetchAnswer folder.now name.now result) (state_of self.old).told_shelf }
+        ensures cause { IsErrOf result ShelfFault.Failed → Rose (state_of self.old).shelf_faults (state_of self.new).shelf_faults }
+        ensures reads { IsTrue (state_of self.old).honest → Reads (state_of self.old) (state_of self.new) }
+        ensures answer { IsTrue (state_of self.old).honest → FetchAnswer folder.now name.now result (state_of self.old).image.shelf }
+
+        ensures as_planned { ShelfFailsAsPlanned self.old self.new result }
+        ensures planned_only { IsErrOf result ShelfFault.Failed → IsTrue (next_fails (calls_ahead self.old)) }
+    {
+        if self.failures.calls.next() {
             self.shelf_faults = self.shelf_faults.saturating_add(1);
             return Err(ShelfFault::Failed);
         }
@@ -212,8 +285,18 @@ impl Plant for MemoryPlant {
         }
     }
 
-    fn list(&mut self, alloc: Global, folder: &Key) -> Result<Vec<ItemName>, ShelfFault> {
-        if self.failures.next_call() {
+    fn list(&mut self, alloc: Global, folder: &Key) -> Result<Vec<ItemName>, ShelfFault>
+        ensures stays { Stays (state_of self.old) (state_of self.new) }
+        ensures told { (state_of self.new).told_shelf ≡ (state_of self.old).told_shelf }
+        ensures told_answer { IsTold (ListAnswer ⟦<ItemName as Ord>⟧.cmp folder.now result) (state_of self.old).told_shelf }
+        ensures cause { IsErrOf result ShelfFault.Failed → Rose (state_of self.old).shelf_faults (state_of self.new).shelf_faults }
+        ensures reads { IsTrue (state_of self.old).honest → Reads (state_of self.old) (state_of self.new) }
+        ensures answer { IsTrue (state_of self.old).honest → ListAnswer ⟦<ItemName as Ord>⟧.cmp folder.now result (state_of self.old).image.shelf }
+
+        ensures as_planned { ShelfFailsAsPlanned self.old self.new result }
+        ensures planned_only { IsErrOf result ShelfFault.Failed → IsTrue (next_fails (calls_ahead self.old)) }
+    {
+        if self.failures.calls.next() {
             self.shelf_faults = self.shelf_faults.saturating_add(1);
             return Err(ShelfFault::Failed);
         }
