@@ -1,5 +1,5 @@
 -- What a check of an organisation's text says.
-use Rattle.std.specs.Prelude.{◌≡◌, ⊤, ℕ, Bool, true, false, List, [], ◌∷◌, ◌++◌, length, codes, decimal, Option, Result, Ok, Err}
+use Rattle.std.specs.Prelude.{◌≡◌, ◌<◌, ⊤, ℕ, Bool, true, false, List, [], ◌∷◌, ◌++◌, length, codes, decimal, Option, Result, Ok, Err}
 use Rattle.std.specs.Io.KnownBytes.{Appends, IsAtEnd}
 use Rattle.port_io.specs.Told.{AppendsPrefix}
 use Rattle.org_directory.specs.Register.{Register}
@@ -78,14 +78,15 @@ longest = 33554432
 
 -- how reading the whole of a source ended, by what it took of it
 abbrev pub ReadOf : List ℕ → Option (List ℕ) → Result (List ℕ) ReadEnd → Type 0
-ReadOf text left (Ok bytes) = (text ≡ bytes) × IsAtEnd left
+ReadOf text left (Ok bytes) = (text ≡ bytes) × (length text < longest) × IsAtEnd left
 ReadOf text left (Err reads.TooLong) = length text ≡ longest
 ReadOf text left (Err reads.Failed) = ⊤
 ReadOf text left (Err reads.NoMemory) = ⊤
 
--- the whole text was taken, and its verdict's line was printed
+-- the whole text was taken, within the limit, and its verdict's line was printed
 pub record Says (text : List ℕ) (left taken now : Option (List ℕ)) (passes : Bool) : Type 0 where
   pub whole : IsAtEnd left
+  pub short : length text < longest
   pub verdict : (verdict_of text).passes ≡ passes
   pub line : Appends taken now (verdict_of text).line
 
@@ -93,7 +94,7 @@ pub record Says (text : List ℕ) (left taken now : Option (List ℕ)) (passes :
 abbrev pub Checks : List ℕ → Option (List ℕ) → Option (List ℕ) → Option (List ℕ) → CheckEnd → Type 0
 Checks text left taken now ends.Passed = Says text left taken now true
 Checks text left taken now ends.Refused = Says text left taken now false
-Checks text left taken now ends.SinkFault = IsAtEnd left × AppendsPrefix taken now (verdict_of text).line
+Checks text left taken now ends.SinkFault = IsAtEnd left × (length text < longest) × AppendsPrefix taken now (verdict_of text).line
 Checks text left taken now ends.TooLong = (length text ≡ longest) × (now ≡ taken)
 Checks text left taken now ends.SourceFault = now ≡ taken
 Checks text left taken now ends.NoMemory = now ≡ taken
