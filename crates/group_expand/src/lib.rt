@@ -13,6 +13,3 @@ pub use approval::needs_approval;
 pub use outcome::{Closed, ExpandFault, Expansion, Leaf};
 pub use plain::expand_plainly;
 pub use routes::expand;
-
-#[cfg(test)]
-mod tests;

@@ -6,6 +6,3 @@ mod taking;
 
 pub use scope::takes;
 pub use taking::{Taken, mailboxes};
-
-#[cfg(test)]
-mod tests;

@@ -6,6 +6,3 @@ mod read;
 mod split;
 
 pub use checking::{CheckEnd, check};
-
-#[cfg(test)]
-mod tests;

@@ -16,6 +16,3 @@ mod second_pass;
 pub use directory::Directory;
 pub use fault::DirectoryFault;
 pub use object::{Kind, Object};
-
-#[cfg(test)]
-mod tests;

@@ -9,6 +9,3 @@ mod texts;
 pub use leaves::{Fate, Run, SideCopy, run_rules};
 pub use recipient::{End, MadeCopy, Progress, RuleOutcome, judge};
 pub use texts::Texts;
-
-#[cfg(test)]
-mod tests;

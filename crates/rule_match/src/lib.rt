@@ -11,6 +11,3 @@ mod word;
 pub use rule::applies;
 pub use term::holds;
 pub use word::word_in;
-
-#[cfg(test)]
-mod tests;

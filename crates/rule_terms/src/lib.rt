@@ -24,6 +24,3 @@ pub use fault::RuleFault;
 pub use read_book::read_rules;
 pub use rule::{JournalRule, Rule, Scope};
 pub use term::{Side, Term};
-
-#[cfg(test)]
-mod tests;
