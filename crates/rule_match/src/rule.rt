@@ -1,7 +1,7 @@
 // Whether a rule applies.
 ghost use Rattle.std.specs.Prelude.{◌≡◌, ◌&&◌, ℕ, true, not, IfOk, option_copied};
 ghost use Rattle.std.specs.List.{list_all, list_any};
-ghost use Rattle.rule_terms.specs.Forms.{is_rule, is_term};
+ghost use Rattle.rule_terms.specs.Forms.{is_term};
 ghost use Rattle.rule_match.specs.Applies.{Setting, applies, has_begun, has_ended, holds};
 
 use crate::term::holds;
@@ -80,7 +80,8 @@ pub fn applies(
     message: &Message,
     moment: u64,
 ) -> Result<bool, NoMemory>
-    requires { is_rule rule.now ≡ true }
+    requires when { list_all is_term rule.now.when ≡ true }
+    requires unless { list_all is_term rule.now.unless ≡ true }
     ensures { IfOk result (λ b. b ≡
         applies (record { directory = directory.now; sender = option_copied sender.entry; moment = moment }) recipient.now message.now rule.now) }
 {
