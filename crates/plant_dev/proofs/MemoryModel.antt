@@ -1,20 +1,15 @@
 -- A plant in memory keeps the disk model: one step more, or none.
-use Rattle.std.proofs.Common.{◌≡◌, ◌⊎◌, inl, inr, ℕ, zero, suc, ◌+◌, ◌-◌, ◌≤◌, List, [], ◌∷◌, ◌++◌, length, take, drop, refl, sym, ◌∙◌, ap, subst, arith}
-use Rattle.std.proofs.lemmas.List.{drop-drop, take-append-le}
+use Rattle.std.proofs.Common.{◌≡◌, ◌⊎◌, inl, inr, ℕ, zero, suc, ◌+◌, ◌-◌, ◌≤◌, List, [], ◌∷◌, ◌++◌, length, take, drop, get_or, refl, sym, ◌∙◌, ap, subst, arith}
+use Rattle.std.proofs.lemmas.List.{drop-drop, take-append-le, get_or_default}
+use Rattle.std.proofs.lemmas.List.Quantifiers.{all_pairs_push}
 use Rattle.mail_names.specs.declared.name.ItemName.{ItemName}
 use Rattle.plant_dev.specs.declared.plant.Stored.{Stored}
 use Rattle.plant_dev.specs.declared.step.Step.{Step}
 use Rattle.plant_dev.specs.declared.step.Step.TheVariants as steps
-use Rattle.plant_dev.specs.Shelf.{Has, Puts}
+use Rattle.plant_dev.specs.Shelf.{Has, HasNoNameTwice, Puts}
 use Rattle.plant_dev.specs.Disk.{State, Image, Elapses, Reads, Writes, Shelves, Torn, Settles}
 use Rattle.plant_dev.specs.Memory.{Rest, memory_state, HasLeft, IsImage, put_at, file_after, shelf_after, IsAdded}
-use Rattle.plant_dev.specs.MemoryLaws.{put_at_torn, memory_image}
-
--- what may be left now is what the steps may leave
-pub now_left : (first : Image) (past : List Step) (c : Image) → HasLeft first past (length past) c → IsImage first past c
-now_left first past c (k, within, left) =
-    let none : k ≡ 0 = omega arith in
-    subst (λ (n : ℕ). IsImage first (drop n past) c) none left
+use Rattle.plant_dev.specs.MemoryLaws.{put_at_torn, memory_image, now_left, same_shelf}
 
 left_now : (first : Image) (past : List Step) (c : Image) → IsImage first past c → HasLeft first past (length past) c
 left_now first past c left = (0, omega arith, left)
@@ -67,14 +62,6 @@ module _ (first : Image) where
     crash = λ c left. let (from, was, is) = now_left first (steps.Put item ∷ past) c left in (from, left_now first past from was, record { file = ap (λ (j : Image). j.file) is; shelf = inr (free from was, ap (λ (j : Image). j.shelf) is) });
     time = elapses_step i (record { file = i.file; shelf = i.shelf ++ item ∷ [] }) (steps.Put item) past r r';
   }
-
-  -- the shelf is the same in each image
-  pub same_shelf : (past : List Step) (c : Image) → IsImage first past c → c.shelf ≡ shelf_after first.shelf past
-  same_shelf [] c is = ap (λ (j : Image). j.shelf) is
-  same_shelf (steps.Write at bytes ∷ past) c (d, was, step) = step.shelf ∙ same_shelf past d was
-  same_shelf (steps.Sync ∷ past) c (was, file) = same_shelf past c was
-  same_shelf (steps.Put item ∷ past) c (d, was, is) =
-      ap (λ (j : Image). j.shelf) is ∙ ap (λ (l : List Stored). l ++ item ∷ []) (same_shelf past d was)
 
 -- the same, where what is there afterwards is known by equations
 pub writes_to : (first first' i i' : Image) (past past' : List Step) (r r' : Rest) (at : ℕ) (bytes : List ℕ)
@@ -167,3 +154,21 @@ pub shelf_more : (n : ℕ) (old after : List Stored) (item : Stored) (past : Lis
 shelf_more n old after item past begun is kept =
     let same : take n after ≡ take n old = ap (take n) is ∙ take-append-le n old (item ∷ []) begun in
     is ∙ ap (λ (l : List Stored). l ++ item ∷ []) (kept ∙ ap (λ (l : List Stored). shelf_after l past) (sym same))
+
+pub no_name_twice_none : (shelf : List Stored) → shelf ≡ [] → HasNoNameTwice shelf
+no_name_twice_none shelf none i j d lt within = absurd (omega (arith, ap length none))
+
+-- an item more, of a folder and name that none has
+pub no_name_twice_more : (old after : List Stored) (item : Stored) → (Has item.folder item.name old → ⊥) → after ≡ old ++ item ∷ []
+    → HasNoNameTwice old → HasNoNameTwice after
+no_name_twice_more old after item free is distinct =
+    subst HasNoNameTwice (sym is)
+    (all_pairs_push (λ (a b : Stored). a.folder ≡ b.folder → a.name ≡ b.name → ⊥) old item distinct
+    (λ k d within folder name. free (k, get_or old k d, within, get_or_default old k (get_or old k d) d within, (folder, name))))
+
+-- what a crash leaves of a shelf that has none, where the steps and what they began with are these
+pub no_name_twice_left : (first : Image) (past was : List Step) (shelf begun : List Stored) (c : Image) → IsImage first past c → HasNoNameTwice shelf
+    → shelf ≡ shelf_after begun was → first.shelf ≡ begun → past ≡ was → HasNoNameTwice c.shelf
+no_name_twice_left first past was shelf begun c left distinct kept same steps =
+    subst HasNoNameTwice
+    (kept ∙ ap (λ (l : List Stored). shelf_after l was) (sym same) ∙ ap (shelf_after first.shelf) (sym steps) ∙ sym (same_shelf first past c left)) distinct

@@ -1,5 +1,5 @@
 -- The items of a shelf, the first put first, and what a call answers about them.
-use Rattle.std.specs.Prelude.{◌≡◌, ◌⊎◌, ◌↔◌, ⊤, ℕ, Bool, IsTrue, List, [], ◌∷◌, ◌++◌, Option, Some, None, Result, Ok, Err, IfOk, Any, Vec, IsPermutation, IsSorted}
+use Rattle.std.specs.Prelude.{◌≡◌, ◌⊎◌, ◌↔◌, ⊤, ℕ, Bool, IsTrue, List, [], ◌∷◌, ◌++◌, Option, Some, None, Result, Ok, Err, IfOk, Any, AllPairs, Vec, IsPermutation, IsSorted}
 use Rattle.std.specs.declared.alloc.Global.{Global}
 use Rattle.std.specs.declared.cmp.Ordering.{Ordering}
 use Rattle.mail_names.specs.declared.name.ItemName.{ItemName}
@@ -18,6 +18,10 @@ Has folder name shelf = Any (λ (i : Stored). (i.folder ≡ folder) × (i.name �
 -- and it has these bytes
 abbrev pub HasBytes : List ℕ → ItemName → List ℕ → List Stored → Type 0
 HasBytes folder name bytes shelf = Any (λ (i : Stored). i ≡ item_of folder name bytes) shelf
+
+-- No two items have the same folder and name.
+abbrev pub HasNoNameTwice : List Stored → Type 0
+HasNoNameTwice shelf = AllPairs (λ (a b : Stored). a.folder ≡ b.folder → a.name ≡ b.name → ⊥) shelf
 
 -- An item that is there stays as it is; one that isn't comes, whole.
 abbrev pub Puts : Stored → List Stored → List Stored → Type 0

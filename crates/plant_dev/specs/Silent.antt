@@ -1,6 +1,7 @@
 -- A plant that tells no content and isn't taken for honest.
-use Rattle.std.specs.Prelude.{ℕ, false, [], None, ⊤}
-use Rattle.plant_dev.specs.Disk.{State}
+use Rattle.std.specs.Prelude.{ℕ, false, IsTrue, [], None, ⊤}
+use Rattle.plant_dev.specs.Disk.{State, Image}
+use Rattle.plant_dev.specs.Shelf.{HasNoNameTwice}
 
 abbrev pub silent_state : ℕ → ℕ → State
 silent_state disk_faults shelf_faults = record {
@@ -12,3 +13,7 @@ silent_state disk_faults shelf_faults = record {
   disk_faults = disk_faults;
   shelf_faults = shelf_faults;
 }
+
+-- what is said of honest plants alone isn't said of it
+pub silent_no_name_twice : (disk_faults shelf_faults : ℕ) → IsTrue (silent_state disk_faults shelf_faults).honest → (c : Image) → HasNoNameTwice c.shelf
+silent_no_name_twice disk_faults shelf_faults honest c = absurd (cc)

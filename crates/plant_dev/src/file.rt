@@ -123,13 +123,15 @@ impl<R: Files + Drop> FilePlant<R> {
 }
 
 impl<R: Files + Drop> Plant for FilePlant<R> {
-    ghost use Rattle.plant_dev.specs.Silent.{silent_state};
+    ghost use Rattle.plant_dev.specs.Silent.{silent_state, silent_no_name_twice};
 
     ghost state = { λ p. silent_state p.disk_faults p.shelf_faults };
 
     ghost is_image = { λ p. tt };
 
     ghost counts_now = { λ p t c le now. tt };
+
+    ghost no_name_twice = { λ p honest c left. silent_no_name_twice p.disk_faults p.shelf_faults honest c };
 
     ghost tells_truth = { λ p. tt };
 

@@ -1,4 +1,6 @@
 // A shelf in a folder: `shelf/<key>/<name>.eml`.
+ghost use Rattle.std.specs.Prelude.{◌≡◌, IfErr};
+
 use crate::ShelfFault;
 use crate::folder::sync_folder;
 use mail_names::{Bytes, ItemName, Key, Mark, NoMemory};
@@ -89,7 +91,14 @@ impl<R: Files + Drop> FileShelf<R> {
         }
     }
 
-    /// Puts an item that isn't there yet, whole: it is written aside, synced and renamed.
+    // The folder of all folders of items.
+    fn shelf(&self, alloc: Global) -> Result<String, ShelfFault> {
+        let root = self.root.as_str();
+        Ok(format!(in alloc; "{root}/shelf")?)
+    }
+
+    /// Puts an item that isn't there yet, whole: it is written aside, synced and renamed. Want of memory comes
+    /// before the renaming alone, so that nothing was put then.
     pub fn put(
         &mut self,
         alloc: Global,
@@ -97,6 +106,7 @@ impl<R: Files + Drop> FileShelf<R> {
         name: &ItemName,
         bytes: &[u8],
     ) -> Result<(), ShelfFault> {
+        let shelf = self.shelf(alloc)?;
         let folder = self.folder(alloc, folder)?;
         let path = item_path(alloc, folder.as_str(), name, "eml")?;
         let aside = item_path(alloc, folder.as_str(), name, "part")?;
@@ -106,18 +116,18 @@ impl<R: Files + Drop> FileShelf<R> {
                 fs::create_dir_all(&self.rt, folder.as_str()).map_err(fault_of)?;
             }
             write_new(&self.rt, aside.as_str(), bytes).map_err(fault_of)?;
-            fs::rename(&self.rt, aside.as_str(), path.as_str()).map_err(fault_of)?;
+            fs::rename(&self.rt, aside.as_str(), path.as_str()).map_err(|_| ShelfFault::Failed)?;
         }
-        self.sync(alloc, folder.as_str())
+        self.sync(shelf.as_str(), folder.as_str())
     }
 
     // From here on a crash leaves the items of this folder.
-    fn sync(&mut self, alloc: Global, folder: &str) -> Result<(), ShelfFault> {
-        let root = self.root.as_str();
+    fn sync(&mut self, shelf: &str, folder: &str) -> Result<(), ShelfFault>
+        ensures { IfErr result (λ fault. fault ≡ ShelfFault.Failed) }
+    {
         if !self.is_synced {
-            let shelf = format!(in alloc; "{root}/shelf")?;
-            sync_folder(&self.rt, root).map_err(|_| ShelfFault::Failed)?;
-            sync_folder(&self.rt, shelf.as_str()).map_err(|_| ShelfFault::Failed)?;
+            sync_folder(&self.rt, self.root.as_str()).map_err(|_| ShelfFault::Failed)?;
+            sync_folder(&self.rt, shelf).map_err(|_| ShelfFault::Failed)?;
             self.is_synced = true;
         }
         sync_folder(&self.rt, folder).map_err(|_| ShelfFault::Failed)
@@ -130,12 +140,13 @@ impl<R: Files + Drop> FileShelf<R> {
         folder: &Key,
         name: &ItemName,
     ) -> Result<bool, ShelfFault> {
+        let shelf = self.shelf(alloc)?;
         let folder = self.folder(alloc, folder)?;
         let path = item_path(alloc, folder.as_str(), name, "eml")?;
         if !fs::exists(&self.rt, path.as_str()).map_err(fault_of)? {
             return Ok(false);
         }
-        self.sync(alloc, folder.as_str())?;
+        self.sync(shelf.as_str(), folder.as_str())?;
         Ok(true)
     }
 

@@ -1,7 +1,7 @@
 // What a plant in memory keeps: what it began with, its steps since, and what it reads as.
 ghost use Rattle.std.specs.Prelude.{◌≡◌, ◌+◌, ◌++◌, ◌<◌, ◌≤◌, ◌^◌, ◌∷◌, [], List, length, take, reverse, All, IsPermutation, IsSorted, IfOk, OnOk, OnErr, IsTrue, IsSome, IfNone, IfSome, ◌↔◌};
 ghost use Rattle.plant_dev.specs.declared.step.Step.TheVariants as steps_as;
-ghost use Rattle.plant_dev.specs.Shelf.{Has, HasBytes, NamesIn, item_of};
+ghost use Rattle.plant_dev.specs.Shelf.{Has, HasBytes, HasNoNameTwice, NamesIn, item_of};
 ghost use Rattle.plant_dev.specs.Memory.{put_at, file_after, shelf_after, first_file_of, fits, IsImage, IsAdded};
 
 use crate::Stored;
@@ -22,6 +22,7 @@ pub struct History {
     ghost begun: { first_items ≤ length shelf.items },
     ghost all_fit: { All (λ s. IsTrue (fits s)) steps.items },
     ghost file_kept: { file.items ≡ file_after (first_file_of first_file file) (reverse steps.items) },
+    ghost no_name_twice: { HasNoNameTwice shelf.items },
     ghost shelf_kept: { shelf.items ≡ shelf_after (take first_items shelf.items) (reverse steps.items) },
 }
 
@@ -29,6 +30,7 @@ impl History {
     ghost use Rattle.plant_dev.specs.History.{first_of, image_of, past_of};
 
     pub fn new(alloc: Global, file: Vec<u8>, shelf: Vec<Stored>) -> History
+        requires { HasNoNameTwice shelf.items }
         ensures image { image_of result ≡ record { file = file.items; shelf = shelf.items } }
         ensures first { first_of result ≡ image_of result }
         ensures past { past_of result ≡ [] }
@@ -103,6 +105,7 @@ impl History {
         self.add(alloc, folder, name, bytes)
     }
 
+    // Puts an item that isn't there.
     fn add(
         &mut self,
         alloc: Global,
@@ -110,6 +113,7 @@ impl History {
         name: &ItemName,
         bytes: &[u8],
     ) -> Result<(), NoMemory>
+        requires { Has folder.now name.now (image_of self.old).shelf → ⊥ }
         ensures first { first_of self.new ≡ first_of self.old }
         ensures image { OnOk result (image_of self.new ≡ record { file = (image_of self.old).file; shelf = (image_of self.old).shelf ++ item_of folder.now name.now bytes.now ∷ [] }) }
         ensures past { OnOk result (past_of self.new ≡ steps_as.Put (item_of folder.now name.now bytes.now) ∷ past_of self.old) }

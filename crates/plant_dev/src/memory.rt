@@ -103,7 +103,7 @@ impl Plant for MemoryPlant {
     ghost use Rattle.plant_dev.specs.Shelf.{PutBy, item_of, Tells, IsTold, HasAnswer, FetchAnswer, ListAnswer};
     ghost use Rattle.plant_dev.specs.Failures.{failing_by};
     ghost use Rattle.plant_dev.specs.History.{first_of, image_of, past_of};
-    ghost use Rattle.plant_dev.specs.MemoryLaws.{memory_is_image, memory_counts_now};
+    ghost use Rattle.plant_dev.specs.MemoryLaws.{memory_is_image, memory_counts_now, memory_no_name_twice};
     ghost use Rattle.plant_dev.specs.MemoryState.{state_of, calls_ahead, folder_plans};
     ghost use Rattle.plant_dev.specs.MemoryFailures.{FileFailsAsPlanned, ShelfFailsAsPlanned, PutsAsPlanned};
 
@@ -112,6 +112,8 @@ impl Plant for MemoryPlant {
     ghost is_image = { λ p. memory_is_image (first_of p.history) (image_of p.history) (past_of p.history) p.history.file_kept p.history.shelf_kept };
 
     ghost counts_now = { λ p. memory_counts_now (first_of p.history) (past_of p.history) };
+
+    ghost no_name_twice = { λ p honest. memory_no_name_twice (first_of p.history) (image_of p.history) (past_of p.history) p.history.no_name_twice p.history.shelf_kept };
 
     ghost tells_truth = { λ p. refl };
 

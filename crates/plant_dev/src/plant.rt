@@ -2,7 +2,7 @@
 ghost use Rattle.std.specs.Prelude.{◌≡◌, ◌≤◌, ◌<◌, ◌+◌, ◌^◌, ℕ, length, IfOk, OnOk, OnErr, IsTrue, IsErrOf};
 ghost use Rattle.port_io.specs.Causes.{Rose};
 ghost use Rattle.plant_dev.specs.Disk.{State, Image, images, Stays, Reads, Writes, Holds, Gives, Durable, Shelves, Settles};
-ghost use Rattle.plant_dev.specs.Shelf.{PutBy, item_of, Tells, IsTold, HasAnswer, FetchAnswer, ListAnswer};
+ghost use Rattle.plant_dev.specs.Shelf.{PutBy, item_of, Tells, IsTold, HasAnswer, FetchAnswer, ListAnswer, HasNoNameTwice};
 
 use mail_names::{Bytes, ItemName, Key, NoMemory};
 use port_io::Failed;
@@ -177,6 +177,9 @@ pub trait Plant {
 
     /// This moment is one of those since an earlier one.
     ghost counts_now: { (p : Self) (t : ℕ) (c : Image) → t ≤ (state p).moment → images (state p) c → (state p).left_since t c };
+
+    /// No folder of an image has a name twice.
+    ghost no_name_twice: { (p : Self) → IsTrue (state p).honest → (c : Image) → images (state p) c → HasNoNameTwice c.shelf };
 
     /// A told shelf is the one that is read.
     ghost tells_truth: { (p : Self) → IsTold (λ shelf. shelf ≡ (state p).image.shelf) (state p).told_shelf };

@@ -5,7 +5,8 @@ use Rattle.plant_dev.specs.declared.plant.Stored.{Stored}
 use Rattle.plant_dev.specs.declared.step.Step.{Step}
 use Rattle.plant_dev.specs.declared.step.Step.TheVariants as steps
 use Rattle.plant_dev.specs.Memory.{fits, file_after, shelf_after, first_file_of}
-use Rattle.plant_dev.proofs.MemoryModel.{shelf_more}
+use Rattle.plant_dev.specs.Shelf.{item_of}
+use Rattle.plant_dev.proofs.MemoryModel.{shelf_more, no_name_twice_more}
 use Rattle.plant_dev.proofs.history.History.add.Goals as goal
 
 pub invariant_of-self-2-clause-all_fit : goal.invariant_of-self-2-clause-all_fit
@@ -30,3 +31,10 @@ invariant_of-self-2-clause-file_kept c =
     let past : reverse c.push.new.self.items ≡ steps.Put c.in_ok-again.again ∷ reverse h.steps.items =
     ap reverse c.in_ok-push.ensures.items ∙ reverse-append h.steps.items (steps.Put c.in_ok-again.again ∷ []) in
     subst (λ (p : List Step). h.file.items ≡ file_after (first_file_of h.first_file h.file) p) (sym past) h.file_kept
+
+pub invariant_of-self-2-clause-no_name_twice : goal.invariant_of-self-2-clause-no_name_twice
+invariant_of-self-2-clause-no_name_twice c =
+    let h = c.args.self.now in
+    let item = item_of c.args.folder.now c.args.name.now c.args.bytes.now in
+    let is : c.push-2.new.self.items ≡ h.shelf.items ++ item ∷ [] = search rules in
+    no_name_twice_more h.shelf.items _ item c.requires is h.no_name_twice
