@@ -9,7 +9,8 @@ use Rattle.plant_dev.specs.declared.plant.Stored.{Stored}
 use Rattle.plant_dev.specs.declared.plant.ShelfFault.{ShelfFault}
 use Rattle.plant_dev.specs.declared.plant.ShelfFault.TheVariants as faults
 use Rattle.plant_dev.specs.Disk.{Image}
-use Rattle.plant_dev.specs.Shelf.{Has, Puts, PutBy}
+use Rattle.plant_dev.specs.Shelf.{Has, HasNoNameTwice, Puts, PutBy}
+use Rattle.plant_dev.proofs.Offered.{no_name_twice_more}
 use Rattle.queue_disk.specs.Log.{FileOf}
 use Rattle.hub_core.specs.Setup.{Setup}
 use Rattle.hub_core.specs.declared.queue.QueuedItem.{QueuedItem}
@@ -55,6 +56,7 @@ stands-push setup c c' h e stands step told same file = record {
   history = history-push setup h e stands.history step;
   file = file;
   within = subst (λ (shelf : List Stored). IsWithin setup (h ++ e ∷ []) shelf) (sym same) (within_older setup h e c.shelf stands.within);
+  once = subst HasNoNameTwice (sym same) stands.once;
   delivered = λ name d. subst (λ (shelf : List Stored). IsShelved setup (h ++ e ∷ []) name shelf) (sym same) (delivered_all setup h e name c.shelf stands.delivered told d);
 }
 
@@ -64,6 +66,7 @@ stands-same setup c c' h stands same file = record {
   history = stands.history;
   file = file;
   within = subst (λ (shelf : List Stored). IsWithin setup h shelf) (sym same) stands.within;
+  once = subst HasNoNameTwice (sym same) stands.once;
   delivered = λ name d. subst (λ (shelf : List Stored). IsShelved setup h name shelf) (sym same) (stands.delivered name d);
 }
 
@@ -91,12 +94,17 @@ keeps_within : (setup : Setup) (h : List Entry) (x : QueuedItem) (old after : Li
 keeps_within setup h x old after among (inl there) within = subst (λ (shelf : List Stored). IsWithin setup h shelf) (sym there.1) within
 keeps_within setup h x old after among (inr comes) within = subst (λ (shelf : List Stored). IsWithin setup h shelf) (sym comes.1) (within_more setup h x old within among)
 
+keeps_once : (item : Stored) (old after : List Stored) → Puts item old after → HasNoNameTwice old → HasNoNameTwice after
+keeps_once item old after (inl there) once = subst HasNoNameTwice (sym there.1) once
+keeps_once item old after (inr comes) once = no_name_twice_more old after item comes.0 comes.1 once
+
 -- a prescribed item was put
 pub stands-put : (setup : Setup) (c c' : Image) (h : List Entry) (x : QueuedItem) → Stands setup c h → Among x (items setup h) → c'.file ≡ c.file → Puts (stored_of x) c.shelf c'.shelf → Stands setup c' h
 stands-put setup c c' h x stands among same puts = record {
   history = stands.history;
   file = subst (λ (f : List ℕ). FileOf f h) (sym same) stands.file;
   within = keeps_within setup h x c.shelf c'.shelf among puts stands.within;
+  once = keeps_once (stored_of x) c.shelf c'.shelf puts stands.once;
   delivered = λ name d. (let s = stands.delivered name d in
       record { item = s.item; among = s.among; named = s.named; there = keeps_has (stored_of x) c.shelf c'.shelf s.item.folder s.item.name puts s.there });
 }

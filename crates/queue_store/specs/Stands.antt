@@ -4,7 +4,7 @@ use Rattle.mail_names.specs.declared.name.ItemName.{ItemName}
 use Rattle.mail_plan.specs.declared.entry.Entry.{Entry}
 use Rattle.plant_dev.specs.declared.plant.Stored.{Stored}
 use Rattle.plant_dev.specs.Disk.{Image}
-use Rattle.plant_dev.specs.Shelf.{Has, item_of}
+use Rattle.plant_dev.specs.Shelf.{Has, HasNoNameTwice, item_of}
 use Rattle.queue_disk.specs.Log.{FileOf}
 use Rattle.hub_core.specs.Setup.{Setup}
 use Rattle.hub_core.specs.declared.queue.QueuedItem.{QueuedItem}
@@ -30,10 +30,11 @@ pub record IsShelved (setup : Setup) (h : List Entry) (name : ItemName) (shelf :
   pub named : item.name ≡ name
   pub there : Has item.folder item.name shelf
 
--- The file is the log of a history under this setup. Nothing is on the shelf but what the history prescribes, and what
--- it says is delivered is there.
+-- The file is the log of a history under this setup. Nothing is on the shelf but what the history prescribes, no folder has
+-- a name twice, and what it says is delivered is there.
 pub record Stands (setup : Setup) (c : Image) (h : List Entry) : Type 0 where
   pub history : IsHistory setup h
   pub file : FileOf c.file h
   pub within : IsWithin setup h c.shelf
+  pub once : HasNoNameTwice c.shelf
   pub delivered : (name : ItemName) → IsDelivered name h → IsShelved setup h name c.shelf
