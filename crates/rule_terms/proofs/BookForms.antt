@@ -1,17 +1,13 @@
 -- What is read has the form that a rule book asks for.
-use Rattle.std.proofs.Common.{◌≡◌, ℕ, ◌+◌, ◌≤◌, ◌&&◌, ◌||◌, ◌==◌, nat_le, nat_lt, not, if◌then◌else◌, Bool, true, false, List, [], ◌∷◌, ◌++◌, length, codes, Option, Some, None, Result, Ok, Err, refl, ap, ◌∙◌, arith, inl, inr}
+use Rattle.std.proofs.Common.{◌≡◌, ℕ, ◌+◌, ◌&&◌, nat_le, nat_lt, if◌then◌else◌, Bool, true, false, List, [], ◌∷◌, length, codes, Option, Some, None, Result, Ok, Err, refl, ap, ◌∙◌, arith}
 use Rattle.std.specs.Prelude.{option_and_then}
 use Rattle.std.specs.List.{list_all}
-use Rattle.std.specs.Char.{to_ascii_lowercase}
-use Rattle.std.proofs.lemmas.Bool.{and_parts, and_from, cases_lt, le-leb, ltb-false}
-use Rattle.std.proofs.lemmas.List.{length-map}
-use Rattle.std.proofs.lemmas.Str.Ascii.{lowercase_is}
+use Rattle.std.proofs.lemmas.Bool.{and_from, le-leb, ltb-false}
 use Rattle.toml.specs.Data.{Data, Items, no_items, item, Members, as_array, as_str, as_table, get_member}
-use Rattle.mail_names.specs.Key.{lower}
 use Rattle.org_directory.specs.Register.{Register, place_of}
-use Rattle.rule_terms.specs.Forms.{are_few, are_terms, has_no_nul, is_domain, is_domain_byte, is_field, is_line, is_name, is_term, is_within, is_word}
+use Rattle.rule_terms.specs.Forms.{are_few, are_terms, is_field, is_line, is_low_domain, is_name, is_note, is_term, is_within, is_word}
 use Rattle.rule_terms.specs.Lists.{and_then, both, count, each, each_from, made, or_bad}
-use Rattle.rule_terms.specs.Parts.{as_formed, as_key, ended_from, formed, formed_at, has_form, has_only, items_at, kept, keys_of, number_at, text_at}
+use Rattle.rule_terms.specs.Parts.{as_formed, as_key, formed, formed_at, has_form, has_only, items_at, kept, keys_of, number_at, text_at}
 use Rattle.rule_terms.specs.Terms.{as_side, at_by, few, field_words, group_at, groups_of, in_by, is_by, list_in, listed, on_by, shape_of, term_by, term_in, term_of, term_with, terms_at, test_of, values_at, values_in, words_at}
 use Rattle.rule_terms.specs.declared.flaw.Flaw.{Flaw}
 use Rattle.rule_terms.specs.declared.flaw.Flaw.TheVariants as flaws
@@ -24,6 +20,7 @@ use Rattle.rule_terms.specs.declared.read_term.Test.TheVariants as tests
 use Rattle.rule_terms.specs.declared.term.Side.{Side}
 use Rattle.rule_terms.specs.declared.term.Term.{Term}
 use Rattle.rule_terms.specs.declared.term.Term.TheVariants as terms
+use Rattle.rule_terms.proofs.KeptTexts.{ended_note, low_domain}
 
 -- what is read, if it is, has a property
 abbrev pub Gets : {X E : Type 0} → (X → Type 0) → Result X E → Type 0
@@ -104,69 +101,16 @@ is_kept forms.Name text = is_name text
 is_kept forms.Line text = is_line text
 is_kept forms.Field text = is_field text
 is_kept forms.Word text = is_word text
-is_kept forms.Domain text = is_domain text
-is_kept forms.Note text = nat_le 1 (length text) && has_no_nul text
-
-or_second : (a c d : Bool) → (a || true || c || d) ≡ true
-or_second true c d = refl
-or_second false c d = refl
-
-lower_letter : (b : ℕ) → 97 ≤ b → b ≤ 122 → is_domain_byte b ≡ true
-lower_letter b low high =
-    let other : (b == 64) ≡ false = grind arith in
-    rw (le-leb 97 b low, le-leb b 122 high, other) refl
-
-lower_byte : (b : ℕ) → is_domain_byte b ≡ true → is_domain_byte (to_ascii_lowercase b) ≡ true
-lower_byte b h =
-    elim (cases_lt b 65) [
-      | inl below ↦ ap is_domain_byte ((lowercase_is b).1 below) ∙ h
-      | inr low ↦
-          elim (cases_lt 90 b) [
-            | inl above ↦ ap is_domain_byte ((lowercase_is b).2 above) ∙ h
-            | inr high ↦ ap is_domain_byte ((lowercase_is b).0 (low, high)) ∙ lower_letter (b + 32) (omega arith) (omega arith)
-          ]
-    ]
-
-lower_bytes : (bs : List ℕ) → list_all is_domain_byte bs ≡ true → list_all is_domain_byte (lower bs) ≡ true
-lower_bytes [] h = refl
-lower_bytes (b ∷ bs) h =
-    let parts : (is_domain_byte b ≡ true) × (list_all is_domain_byte bs ≡ true) = and_parts (is_domain_byte b) (list_all is_domain_byte bs) h in
-    and_from (is_domain_byte (to_ascii_lowercase b)) (list_all is_domain_byte (lower bs)) (lower_byte b parts.0) (lower_bytes bs parts.1)
-
-lower_domain : (text : List ℕ) → is_domain text ≡ true → is_domain (lower text) ≡ true
-lower_domain text h =
-    let parts : (is_within 1 252 (length text) ≡ true) × (list_all is_domain_byte text ≡ true) = and_parts (is_within 1 252 (length text)) (list_all is_domain_byte text) h in
-    and_from (is_within 1 252 (length (lower text))) (list_all is_domain_byte (lower text))
-    (ap (is_within 1 252) (length-map text to_ascii_lowercase) ∙ parts.0) (lower_bytes text parts.1)
-
-ended-none : (test : Bool) (b : ℕ) (rest : List ℕ) → not (b == 0) ≡ true → has_no_nul rest ≡ true → has_no_nul ((if test then 13 ∷ 10 ∷ [] else b ∷ []) ++ rest) ≡ true
-ended-none true b rest h more = more
-ended-none false b rest h more = and_from (not (b == 0)) (has_no_nul rest) h more
-
-ended_no_nul : (before : ℕ) (bs : List ℕ) → has_no_nul bs ≡ true → has_no_nul (ended_from before bs) ≡ true
-ended_no_nul before [] h = refl
-ended_no_nul before (b ∷ bs) h =
-    let parts : (not (b == 0) ≡ true) × (has_no_nul bs ≡ true) = and_parts (not (b == 0)) (has_no_nul bs) h in
-    ended-none (b == 10 && not (before == 13)) b (ended_from b bs) parts.0 (ended_no_nul b bs parts.1)
-
-some_ended : (test : Bool) (b : ℕ) (rest : List ℕ) → nat_le 1 (length ((if test then 13 ∷ 10 ∷ [] else b ∷ []) ++ rest)) ≡ true
-some_ended true b rest = le-leb 1 (length (13 ∷ 10 ∷ rest)) (omega arith)
-some_ended false b rest = le-leb 1 (length (b ∷ rest)) (omega arith)
-
-note_ended : (bs : List ℕ) → (is_within 1 4096 (length bs) && has_no_nul bs) ≡ true → is_kept forms.Note (ended_from 0 bs) ≡ true
-note_ended [] h = absurd (cc h)
-note_ended (b ∷ bs) h =
-    let parts : (is_within 1 4096 (length (b ∷ bs)) ≡ true) × (has_no_nul (b ∷ bs) ≡ true) = and_parts (is_within 1 4096 (length (b ∷ bs))) (has_no_nul (b ∷ bs)) h in
-    and_from (nat_le 1 (length (ended_from 0 (b ∷ bs)))) (has_no_nul (ended_from 0 (b ∷ bs)))
-    (some_ended (b == 10 && not (0 == 13)) b (ended_from b bs)) (ended_no_nul 0 (b ∷ bs) parts.1)
+is_kept forms.Domain text = is_low_domain text
+is_kept forms.Note text = is_note text
 
 kept-form : (form : Form) (text : List ℕ) → has_form form text ≡ true → is_kept form (kept form text) ≡ true
 kept-form forms.Name text h = h
 kept-form forms.Line text h = h
 kept-form forms.Field text h = h
 kept-form forms.Word text h = h
-kept-form forms.Domain text h = lower_domain text h
-kept-form forms.Note text h = note_ended text h
+kept-form forms.Domain text h = low_domain text h
+kept-form forms.Note text h = ended_note text h
 
 pub formed-form : (form : Form) (text : List ℕ) → Finds (λ t. is_kept form t ≡ true) (formed form text)
 formed-form form text = finds-if (λ t. is_kept form t ≡ true) (has_form form text) (kept form text) (kept-form form text)
@@ -244,7 +188,7 @@ on_by-form : (party : Party) (sides : List Side) → AreFew sides → IsTerm (on
 on_by-form parties.Sender sides h = h
 on_by-form parties.Recipient sides h = h
 
-at_by-form : (party : Party) (domains : List (List ℕ)) → (are_few domains && list_all is_domain domains) ≡ true → IsTerm (at_by party domains)
+at_by-form : (party : Party) (domains : List (List ℕ)) → (are_few domains && list_all is_low_domain domains) ≡ true → IsTerm (at_by party domains)
 at_by-form parties.Sender domains h = h
 at_by-form parties.Recipient domains h = h
 
@@ -257,8 +201,8 @@ term_by-form reg ms (tests.InGroup party) =
 term_by-form reg ms (tests.OnSide party) =
     gets-made AreFew IsTerm (on_by party) (on_by-form party) (values_at as_side ms) (values-few as_side (items_at (codes "values") ms))
 term_by-form reg ms (tests.AtDomain party) =
-    gets-made (λ ds. (are_few ds && list_all is_domain ds) ≡ true) IsTerm (at_by party) (at_by-form party) (values_at (as_formed forms.Domain) ms)
-    (values-good is_domain (as_formed forms.Domain) (as_formed-form forms.Domain) (items_at (codes "values") ms))
+    gets-made (λ ds. (are_few ds && list_all is_low_domain ds) ≡ true) IsTerm (at_by party) (at_by-form party) (values_at (as_formed forms.Domain) ms)
+    (values-good is_low_domain (as_formed forms.Domain) (as_formed-form forms.Domain) (items_at (codes "values") ms))
 term_by-form reg ms tests.SubjectWords =
     gets-made (λ ws. (are_few ws && list_all is_word ws) ≡ true) IsTerm (λ words. terms.SubjectWords words) (λ words h. h) (words_at ms) (words-good ms)
 term_by-form reg ms tests.TextWords =

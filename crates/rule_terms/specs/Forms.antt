@@ -1,6 +1,7 @@
 -- The forms of terms, actions and rules. Every rule of a book has them.
 use Rattle.std.specs.Prelude.{ℕ, ◌==◌, nat_le, Bool, true, false, not, ◌&&◌, ◌||◌, List, [], ◌∷◌, length}
 use Rattle.std.specs.List.{list_all, list_any, filter}
+use Rattle.std.specs.Char.{is_ascii_uppercase}
 use Rattle.std.specs.Str.{bytes_eq, is_utf8}
 use Rattle.mail_names.specs.Key.{is_key_byte}
 use Rattle.mail_message.specs.Lines.{is_field_name, is_printable}
@@ -42,9 +43,26 @@ is_domain_byte b = is_key_byte b && not (b == 64)
 abbrev pub is_domain : List ℕ → Bool
 is_domain text = is_within 1 252 (length text) && list_all is_domain_byte text
 
+-- It is kept in lower case.
+abbrev pub is_low_domain : List ℕ → Bool
+is_low_domain text = is_domain text && not (list_any is_ascii_uppercase text)
+
 -- A disclaimer's text has no NUL.
 abbrev pub has_no_nul : List ℕ → Bool
 has_no_nul text = list_all (λ b. not (b == 0)) text
+
+-- behind this byte, each LF of the text has a CR before it
+abbrev pub ends_lines : ℕ → List ℕ → Bool
+ends_lines before [] = true
+ends_lines before (b ∷ bs) = (not (b == 10) || before == 13) && ends_lines b bs
+
+-- so many octets, where the CR LF at the end of a line counts as one
+abbrev pub note_length : List ℕ → ℕ
+note_length text = length (filter (λ b. not (b == 10)) text)
+
+-- A disclaimer's text, as it is kept, has 1 to 4,096 octets, and CR LF at the end of each line.
+abbrev pub is_note : List ℕ → Bool
+is_note text = is_within 1 4096 (note_length text) && (has_no_nul text && ends_lines 0 text)
 
 -- a term has 1 to 100 values
 abbrev pub are_few : {X : Type 0} → List X → Bool
@@ -65,8 +83,8 @@ is_term (terms.SenderIn groups) = are_few groups
 is_term (terms.RecipientIn groups) = are_few groups
 is_term (terms.SenderScope sides) = are_few sides
 is_term (terms.RecipientScope sides) = are_few sides
-is_term (terms.SenderDomain domains) = are_few domains && list_all is_domain domains
-is_term (terms.RecipientDomain domains) = are_few domains && list_all is_domain domains
+is_term (terms.SenderDomain domains) = are_few domains && list_all is_low_domain domains
+is_term (terms.RecipientDomain domains) = are_few domains && list_all is_low_domain domains
 is_term (terms.SubjectWords words) = are_words words
 is_term (terms.TextWords words) = are_words words
 is_term (terms.FieldWords field words) = is_field field && are_words words
@@ -83,7 +101,7 @@ is_action (actions.SetField field text) = is_field field && is_line text
 is_action (actions.RemoveField field) = is_field field
 is_action (actions.CopyTo target) = true
 is_action (actions.RedirectTo target) = true
-is_action (actions.Disclaimer before text fallback) = nat_le 1 (length text) && has_no_nul text
+is_action (actions.Disclaimer before text fallback) = is_note text
 is_action (actions.Reject code words) = is_code code && is_line words
 is_action (actions.Approve by) = is_within 1 10 (length by) && are_distinct by
 
