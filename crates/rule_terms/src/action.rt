@@ -36,7 +36,7 @@ pub enum Action {
     RedirectTo {
         target: Key,
     },
-    /// Adds a text before or behind the body, or does what the fallback says. A rule has one at most.
+    /// Adds a text before or behind the body, or does what the fallback says. Each line end of the text is CR LF. A rule has one at most.
     Disclaimer {
         before: bool,
         text: Bytes,
