@@ -1,3 +1,4 @@
+pub mod Asked
 pub mod Growth
 pub mod Listed
 pub mod Listing

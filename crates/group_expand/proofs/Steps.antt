@@ -17,43 +17,38 @@ use Rattle.org_directory.specs.declared.object.Object.{Object}
 use Rattle.group_expand.specs.declared.way.Way.{Way}
 use Rattle.group_expand.proofs.Walking.{holding-pop, holding-end, holding-nothing, holding-start, facing-member, facing-root, facing-skip, facing-enter}
 use Rattle.group_expand.specs.declared.walk.Entered.{Entered}
-use Rattle.group_expand.specs.Routes.{all_ways, web_of, shut_by, shut_at, is_leaf}
+use Rattle.group_expand.specs.Routes.{all_ways, web_of, is_leaf}
 use Rattle.group_expand.specs.Places.{places_of, is_no_group, ends_at, entry, entered, frame_of, frames_of, marked_at, had_by, cost, unmarked, Holds, Faces, Ready, Took, with_stranger, no_marks, entries, groups, CostsEntriesAndGroups, price, owed, left_of, all_owed}
 
 pub had-at : (reg : Register) (marks : List Bool) (found : List Way) (p : ℕ) → IsSound reg → p < length reg.objects
     → had_by reg marks found (key_at reg p) ≡ get_or marks p false
 had-at reg marks found p sound h = ap (marked_at marks found (key_at reg p)) (place_of-key_at reg p sound h)
 
-shut-at : (reg : Register) (table : List Bool) (p : ℕ) → IsSound reg → p < length reg.objects
-    → shut_by reg table (key_at reg p) ≡ get_or table p false
-shut-at reg table p sound h = ap (shut_at table) (place_of-key_at reg p sound h)
-
 leaf-is : (o : Option Object) (inside : Bool) (x : Object) → o ≡ Some x → is_leaf o inside ≡ is_no_group o
 leaf-is (Some o) inside x h = refl
 leaf-is None inside x h = absurd (cc h)
 
-is_end-at : (reg : Register) (table : List Bool) (p : ℕ) → IsSound reg → p < length reg.objects
-    → (web_of reg (shut_by reg table)).is_end (key_at reg p) ≡ ends_at reg table p
-is_end-at reg table p sound h =
+is_end-at : (reg : Register) (shut : List ℕ → Bool) (p : ℕ) → IsSound reg → p < length reg.objects
+    → (web_of reg shut).is_end (key_at reg p) ≡ ends_at reg shut p
+is_end-at reg shut p sound h =
     let there : (o : Object) × (slice_get reg.objects p ≡ Some o) = object-there reg.objects p h in
-    let e1 : shut_by reg table (key_at reg p) ≡ get_or table p false = shut-at reg table p sound h in
     let e2 : object_of reg (key_at reg p) ≡ slice_get reg.objects p = object_of-at reg p sound h in
     let e3 : is_leaf (slice_get reg.objects p) (is_inside reg (key_at reg p)) ≡ is_no_group (slice_get reg.objects p)
     = leaf-is (slice_get reg.objects p) (is_inside reg (key_at reg p)) there.0 there.1 in
     let e4 : is_leaf (object_of reg (key_at reg p)) (is_inside reg (key_at reg p)) ≡ is_no_group (slice_get reg.objects p)
     = ap (λ o. is_leaf o (is_inside reg (key_at reg p))) e2 ∙ e3 in
-    ap (λ b. b || is_leaf (object_of reg (key_at reg p)) (is_inside reg (key_at reg p))) e1 ∙ ap (λ b. get_or table p false || b) e4
+    ap (λ b. shut (key_at reg p) || b) e4
 
 -- what follows a key, where no way ends at it, and where one does
 or-false : (a b : Bool) → (a || b) ≡ false → (a ≡ false) × (b ≡ false)
 or-false true b h = absurd (cc h)
 or-false false b h = (refl, h)
 
-next-open : (reg : Register) (table : List Bool) (p : ℕ) → IsSound reg → p < length reg.objects → ends_at reg table p ≡ false
-    → (web_of reg (shut_by reg table)).next (key_at reg p) ≡ keys_at reg (members_in (slice_get reg.objects p))
-next-open reg table p sound h open-here =
-    let e1 : shut_by reg table (key_at reg p) ≡ false
-    = shut-at reg table p sound h ∙ (or-false (get_or table p false) (is_no_group (slice_get reg.objects p)) open-here).0 in
+next-open : (reg : Register) (shut : List ℕ → Bool) (p : ℕ) → IsSound reg → p < length reg.objects → ends_at reg shut p ≡ false
+    → (web_of reg shut).next (key_at reg p) ≡ keys_at reg (members_in (slice_get reg.objects p))
+next-open reg shut p sound h open-here =
+    let e1 : shut (key_at reg p) ≡ false
+    = (or-false (shut (key_at reg p)) (is_no_group (slice_get reg.objects p)) open-here).0 in
     ap (λ b. if b then [] else members_of reg (key_at reg p)) e1 ∙ members-at reg p sound h
 
 no-members : (reg : Register) (p : ℕ) → IsSound reg → (o : Option Object) → slice_get reg.objects p ≡ o → is_no_group o ≡ true → members_in o ≡ []
@@ -64,19 +59,19 @@ no-members reg p sound (Some o) e h = (sound.placed p o e).groups_alone (not-tru
     not-true true h = absurd (cc h)
     not-true false h = refl
 
-next-end : (reg : Register) (table : List Bool) (p : ℕ) → IsSound reg → p < length reg.objects → ends_at reg table p ≡ true
-    → (web_of reg (shut_by reg table)).next (key_at reg p) ≡ []
-next-end reg table p sound h ended = by_table (get_or table p false) refl
+next-end : (reg : Register) (shut : List ℕ → Bool) (p : ℕ) → IsSound reg → p < length reg.objects → ends_at reg shut p ≡ true
+    → (web_of reg shut).next (key_at reg p) ≡ []
+next-end reg shut p sound h ended = by_shut (shut (key_at reg p)) refl
   where
     or-rest : (b : Bool) → (b || is_no_group (slice_get reg.objects p)) ≡ true → b ≡ false → is_no_group (slice_get reg.objects p) ≡ true
     or-rest true h e = absurd (cc e)
     or-rest false h e = h
 
-    by_table : (b : Bool) → get_or table p false ≡ b → (web_of reg (shut_by reg table)).next (key_at reg p) ≡ []
-    by_table true e = ap (λ b. if b then [] else members_of reg (key_at reg p)) (shut-at reg table p sound h ∙ e)
-    by_table false e =
-        ap (λ b. if b then [] else members_of reg (key_at reg p)) (shut-at reg table p sound h ∙ e)
-        ∙ (members-at reg p sound h ∙ ap (keys_at reg) (no-members reg p sound (slice_get reg.objects p) refl (or-rest (get_or table p false) ended e)))
+    by_shut : (b : Bool) → shut (key_at reg p) ≡ b → (web_of reg shut).next (key_at reg p) ≡ []
+    by_shut true e = ap (λ b. if b then [] else members_of reg (key_at reg p)) e
+    by_shut false e =
+        ap (λ b. if b then [] else members_of reg (key_at reg p)) e
+        ∙ (members-at reg p sound h ∙ ap (keys_at reg) (no-members reg p sound (slice_get reg.objects p) refl (or-rest (shut (key_at reg p)) ended e)))
 
 -- the keys that were had, behind a mark
 had-marked : (reg : Register) (marks : List Bool) (found more : List Way) (p : ℕ) → IsSound reg → p < length reg.objects
@@ -143,15 +138,15 @@ keys-here true route key k h = grind (arith, common_steps, h)
 keys-here false route key k h = absurd (cc h)
 
 -- A first meeting, by places, is one on keys.
-pub visited : (reg : Register) (table : List Bool) (whole : List Way) (roots : List (List ℕ)) (marks : List Bool) (stack : List Entered) (found : List Way) (p : ℕ)
+pub visited : (reg : Register) (shut : List ℕ → Bool) (whole : List Way) (roots : List (List ℕ)) (marks : List Bool) (stack : List Entered) (found : List Way) (p : ℕ)
     → IsSound reg → p < length reg.objects → length marks ≡ length reg.objects → get_or marks p false ≡ false → length stack ≤ length reg.objects
-    → Faces reg table whole roots marks stack (key_at reg p) found
-    → Holds reg table whole roots (set marks p true) (entered (ends_at reg table p) stack p)
-    (found ++ here (ends_at reg table p) (places_of reg stack) (key_at reg p))
-visited reg table whole roots marks stack found p sound inside long new deep facing = by_end (ends_at reg table p) refl
+    → Faces reg shut whole roots marks stack (key_at reg p) found
+    → Holds reg shut whole roots (set marks p true) (entered (ends_at reg shut p) stack p)
+    (found ++ here (ends_at reg shut p) (places_of reg stack) (key_at reg p))
+visited reg shut whole roots marks stack found p sound inside long new deep facing = by_end (ends_at reg shut p) refl
   where
     web : Web
-    web = web_of reg (shut_by reg table)
+    web = web_of reg shut
 
     room : ℕ
     room = length reg.objects + 1
@@ -177,26 +172,26 @@ visited reg table whole roots marks stack found p sound inside long new deep fac
         omega arith
 
     more : List Way
-    more = here (ends_at reg table p) (places_of reg stack) key
+    more = here (ends_at reg shut p) (places_of reg stack) key
 
     had-is : with_key key had ≡ had_by reg (set marks p true) (found ++ more)
-    had-is = λ i k. sym (had-marked reg marks found more p sound inside long (λ k h. keys-here (ends_at reg table p) (places_of reg stack) key k h) k) i
+    had-is = λ i k. sym (had-marked reg marks found more p sound inside long (λ k h. keys-here (ends_at reg shut p) (places_of reg stack) key k h) k) i
 
     step1 : Holding web room whole roots (with_key key had) (frame key (web.next key) ∷ frames) (found ++ here (web.is_end key) (trail_of frames) key)
     step1 = facing-enter web room whole roots had frames key found deep-enough new-key facing
 
     step2 : Holding web room whole roots (with_key key had) (frame key (web.next key) ∷ frames) (found ++ more)
     step2 = subst (λ ws. Holding web room whole roots (with_key key had) (frame key (web.next key) ∷ frames) (found ++ ws))
-        (ap (λ b. here b (trail_of frames) key) (is_end-at reg table p sound inside) ∙ ap (λ t. here (ends_at reg table p) t key) trail-is) step1
+        (ap (λ b. here b (trail_of frames) key) (is_end-at reg shut p sound inside) ∙ ap (λ t. here (ends_at reg shut p) t key) trail-is) step1
 
     step3 : Holding web room whole roots (had_by reg (set marks p true) (found ++ more)) (frame key (web.next key) ∷ frames) (found ++ more)
     step3 = subst (λ f. Holding web room whole roots f (frame key (web.next key) ∷ frames) (found ++ more)) had-is step2
 
-    by_end : (b : Bool) → ends_at reg table p ≡ b → Holds reg table whole roots (set marks p true) (entered b stack p) (found ++ more)
-    by_end true e = holding-end web room whole roots (had_by reg (set marks p true) (found ++ more)) key frames (found ++ more) (next-end reg table p sound inside e) step3
+    by_end : (b : Bool) → ends_at reg shut p ≡ b → Holds reg shut whole roots (set marks p true) (entered b stack p) (found ++ more)
+    by_end true e = holding-end web room whole roots (had_by reg (set marks p true) (found ++ more)) key frames (found ++ more) (next-end reg shut p sound inside e) step3
     by_end false e =
         let at : Holding web room whole roots (had_by reg (set marks p true) (found ++ more)) (frame key (keys_at reg (members_in (slice_get reg.objects p))) ∷ frames) (found ++ more)
-        = subst (λ ms. Holding web room whole roots (had_by reg (set marks p true) (found ++ more)) (frame key ms ∷ frames) (found ++ more)) (next-open reg table p sound inside e) step3 in
+        = subst (λ ms. Holding web room whole roots (had_by reg (set marks p true) (found ++ more)) (frame key ms ∷ frames) (found ++ more)) (next-open reg shut p sound inside e) step3 in
         subst (λ fs. Holding web room whole roots (had_by reg (set marks p true) (found ++ more)) fs (found ++ more)) (sym (pushed reg stack (entry p 0))) at
 
 -- the walk stays ready
@@ -245,10 +240,10 @@ owed-marked (x ∷ os) (m ∷ ms) (suc p) o h inside new =
     let rest : owed os (set ms p true) + price o false ≡ owed os ms = owed-marked os ms p o h (omega arith) new in
     omega (arith, rest)
 
-pub owed-visited : (reg : Register) (table marks : List Bool) (stack : List Entered) (p : ℕ)
+pub owed-visited : (reg : Register) (shut : List ℕ → Bool) (marks : List Bool) (stack : List Entered) (p : ℕ)
     → p < length reg.objects → get_or marks p false ≡ false → length marks ≡ length reg.objects
-    → all_owed reg (set marks p true) (entered (ends_at reg table p) stack p) ≤ all_owed reg marks stack
-owed-visited reg table marks stack p inside new long = by_end (ends_at reg table p) refl
+    → all_owed reg (set marks p true) (entered (ends_at reg shut p) stack p) ≤ all_owed reg marks stack
+owed-visited reg shut marks stack p inside new long = by_end (ends_at reg shut p) refl
   where
     there : (o : Object) × (slice_get reg.objects p ≡ Some o)
     there = object-there reg.objects p inside
@@ -266,10 +261,10 @@ owed-visited reg table marks stack p inside new long = by_end (ends_at reg table
         let size : members_in (slice_get reg.objects p) ≡ o.members = ap members_in e in
         rw (is, size) (omega arith)
 
-    by_end : (b : Bool) → ends_at reg table p ≡ b → all_owed reg (set marks p true) (entered b stack p) ≤ all_owed reg marks stack
+    by_end : (b : Bool) → ends_at reg shut p ≡ b → all_owed reg (set marks p true) (entered b stack p) ≤ all_owed reg marks stack
     by_end true e = omega (arith, paid)
     by_end false e =
-        let cost-is : price there.0 false ≡ left_of reg (entry p 0) = group-price there.0 there.1 (or-false (get_or table p false) (is_no_group (slice_get reg.objects p)) e).1 in
+        let cost-is : price there.0 false ≡ left_of reg (entry p 0) = group-price there.0 there.1 (or-false (shut (key_at reg p)) (is_no_group (slice_get reg.objects p)) e).1 in
         let more : sum_by (left_of reg) (stack ++ entry p 0 ∷ []) ≡ sum_by (left_of reg) stack + sum_by (left_of reg) (entry p 0 ∷ []) = sum_by-append (left_of reg) stack (entry p 0 ∷ []) in
         let alone : sum_by (left_of reg) (entry p 0 ∷ []) ≡ left_of reg (entry p 0) = omega arith in
         omega (arith, paid, cost-is, more, alone)
@@ -291,37 +286,37 @@ drop-none (x ∷ xs) (suc k) h = drop-none xs k h
 abbrev pub members_at : Register → Entered → List ℕ
 members_at reg e = members_in (slice_get reg.objects e.place)
 
-pub popped : (reg : Register) (table : List Bool) (whole : List Way) (roots : List (List ℕ)) (marks : List Bool) (front : List Entered) (e : Entered) (found : List Way)
+pub popped : (reg : Register) (shut : List ℕ → Bool) (whole : List Way) (roots : List (List ℕ)) (marks : List Bool) (front : List Entered) (e : Entered) (found : List Way)
     → slice_get (members_at reg e) e.taken ≡ None
-    → Holds reg table whole roots marks (front ++ e ∷ []) found → Holds reg table whole roots marks front found
-popped reg table whole roots marks front e found past h =
-    let at : Holding (web_of reg (shut_by reg table)) (length reg.objects + 1) whole roots (had_by reg marks found) (frame_of reg e ∷ frames_of reg (reverse front)) found
-    = subst (λ fs. Holding (web_of reg (shut_by reg table)) (length reg.objects + 1) whole roots (had_by reg marks found) fs found) (pushed reg front e) h in
-    holding-pop (web_of reg (shut_by reg table)) (length reg.objects + 1) whole roots (had_by reg marks found) (key_at reg e.place) (frames_of reg (reverse front)) found
-    (subst (λ ms. Holding (web_of reg (shut_by reg table)) (length reg.objects + 1) whole roots (had_by reg marks found) (frame (key_at reg e.place) (keys_at reg ms) ∷ frames_of reg (reverse front)) found)
+    → Holds reg shut whole roots marks (front ++ e ∷ []) found → Holds reg shut whole roots marks front found
+popped reg shut whole roots marks front e found past h =
+    let at : Holding (web_of reg shut) (length reg.objects + 1) whole roots (had_by reg marks found) (frame_of reg e ∷ frames_of reg (reverse front)) found
+    = subst (λ fs. Holding (web_of reg shut) (length reg.objects + 1) whole roots (had_by reg marks found) fs found) (pushed reg front e) h in
+    holding-pop (web_of reg shut) (length reg.objects + 1) whole roots (had_by reg marks found) (key_at reg e.place) (frames_of reg (reverse front)) found
+    (subst (λ ms. Holding (web_of reg shut) (length reg.objects + 1) whole roots (had_by reg marks found) (frame (key_at reg e.place) (keys_at reg ms) ∷ frames_of reg (reverse front)) found)
     (drop-none (members_at reg e) e.taken past) at)
 
-pub faced : (reg : Register) (table : List Bool) (whole : List Way) (roots : List (List ℕ)) (marks : List Bool) (front : List Entered) (e : Entered) (m : ℕ) (found : List Way)
+pub faced : (reg : Register) (shut : List ℕ → Bool) (whole : List Way) (roots : List (List ℕ)) (marks : List Bool) (front : List Entered) (e : Entered) (m : ℕ) (found : List Way)
     → slice_get (members_at reg e) e.taken ≡ Some m
-    → Holds reg table whole roots marks (front ++ e ∷ []) found → Faces reg table whole roots marks (front ++ entry e.place (e.taken + 1) ∷ []) (key_at reg m) found
-faced reg table whole roots marks front e m found is h =
-    let at : Holding (web_of reg (shut_by reg table)) (length reg.objects + 1) whole roots (had_by reg marks found) (frame_of reg e ∷ frames_of reg (reverse front)) found
-    = subst (λ fs. Holding (web_of reg (shut_by reg table)) (length reg.objects + 1) whole roots (had_by reg marks found) fs found) (pushed reg front e) h in
-    let split : Holding (web_of reg (shut_by reg table)) (length reg.objects + 1) whole roots (had_by reg marks found)
+    → Holds reg shut whole roots marks (front ++ e ∷ []) found → Faces reg shut whole roots marks (front ++ entry e.place (e.taken + 1) ∷ []) (key_at reg m) found
+faced reg shut whole roots marks front e m found is h =
+    let at : Holding (web_of reg shut) (length reg.objects + 1) whole roots (had_by reg marks found) (frame_of reg e ∷ frames_of reg (reverse front)) found
+    = subst (λ fs. Holding (web_of reg shut) (length reg.objects + 1) whole roots (had_by reg marks found) fs found) (pushed reg front e) h in
+    let split : Holding (web_of reg shut) (length reg.objects + 1) whole roots (had_by reg marks found)
     (frame (key_at reg e.place) (key_at reg m ∷ keys_at reg (drop (e.taken + 1) (members_at reg e))) ∷ frames_of reg (reverse front)) found
-    = subst (λ ms. Holding (web_of reg (shut_by reg table)) (length reg.objects + 1) whole roots (had_by reg marks found) (frame (key_at reg e.place) (keys_at reg ms) ∷ frames_of reg (reverse front)) found)
+    = subst (λ ms. Holding (web_of reg shut) (length reg.objects + 1) whole roots (had_by reg marks found) (frame (key_at reg e.place) (keys_at reg ms) ∷ frames_of reg (reverse front)) found)
     (drop-some (members_at reg e) e.taken m is) at in
-    subst (λ fs. Facing (web_of reg (shut_by reg table)) (length reg.objects + 1) whole roots (had_by reg marks found) fs (key_at reg m) found)
+    subst (λ fs. Facing (web_of reg shut) (length reg.objects + 1) whole roots (had_by reg marks found) fs (key_at reg m) found)
     (sym (pushed reg front (entry e.place (e.taken + 1))))
-    (facing-member (web_of reg (shut_by reg table)) (length reg.objects + 1) whole roots (had_by reg marks found) (key_at reg e.place) (key_at reg m)
+    (facing-member (web_of reg shut) (length reg.objects + 1) whole roots (had_by reg marks found) (key_at reg e.place) (key_at reg m)
     (keys_at reg (drop (e.taken + 1) (members_at reg e))) (frames_of reg (reverse front)) found split)
 
 -- a member that was had is left out
-pub left_out : (reg : Register) (table : List Bool) (whole : List Way) (roots : List (List ℕ)) (marks : List Bool) (stack : List Entered) (m : ℕ) (found : List Way)
+pub left_out : (reg : Register) (shut : List ℕ → Bool) (whole : List Way) (roots : List (List ℕ)) (marks : List Bool) (stack : List Entered) (m : ℕ) (found : List Way)
     → IsSound reg → m < length reg.objects → get_or marks m false ≡ true
-    → Faces reg table whole roots marks stack (key_at reg m) found → Holds reg table whole roots marks stack found
-left_out reg table whole roots marks stack m found sound inside old h =
-    facing-skip (web_of reg (shut_by reg table)) (length reg.objects + 1) whole roots (had_by reg marks found) (frames_of reg (reverse stack)) (key_at reg m) found
+    → Faces reg shut whole roots marks stack (key_at reg m) found → Holds reg shut whole roots marks stack found
+left_out reg shut whole roots marks stack m found sound inside old h =
+    facing-skip (web_of reg shut) (length reg.objects + 1) whole roots (had_by reg marks found) (frames_of reg (reverse stack)) (key_at reg m) found
     (had-at reg marks found m sound inside ∙ old) h
 
 pub taken-below : (reg : Register) (p k m : ℕ) → IsSound reg → slice_get (members_in (slice_get reg.objects p)) k ≡ Some m → k < 200000
@@ -411,49 +406,46 @@ owed-moved reg marks front e m is =
 -- what taking the next member means
 pub took-left : (reg : Register) (old left : List Entered) → Took reg None old left
     → ((marks : List Bool) → Ready reg marks old → Ready reg marks left)
-    × ((table : List Bool) (whole : List Way) (roots : List (List ℕ)) (marks : List Bool) (found : List Way) → Holds reg table whole roots marks old found → Holds reg table whole roots marks left found)
+    × ((shut : List ℕ → Bool) (whole : List Way) (roots : List (List ℕ)) (marks : List Bool) (found : List Way) → Holds reg shut whole roots marks old found → Holds reg shut whole roots marks left found)
     × ((marks : List Bool) → Ready reg marks old → all_owed reg marks left + 1 ≤ all_owed reg marks old)
 took-left reg old left t = (
   (λ marks r. ready-popped reg marks left t.0 (subst (λ s. Ready reg marks s) t.1 r)),
-  (λ table whole roots marks found h. popped reg table whole roots marks left t.0 found t.2 (subst (λ s. Holds reg table whole roots marks s found) t.1 h)),
+  (λ shut whole roots marks found h. popped reg shut whole roots marks left t.0 found t.2 (subst (λ s. Holds reg shut whole roots marks s found) t.1 h)),
   (λ marks r. subst (λ s. all_owed reg marks left + 1 ≤ all_owed reg marks s) (sym t.1) (owed-popped reg marks left t.0 (subst (λ s. Ready reg marks s) t.1 r))),
 )
 
 pub took-member : (reg : Register) (m : ℕ) (old left : List Entered) → Took reg (Some m) old left
     → ((marks : List Bool) → Ready reg marks old → Ready reg marks left)
-    × ((table : List Bool) (whole : List Way) (roots : List (List ℕ)) (marks : List Bool) (found : List Way) → Holds reg table whole roots marks old found → Faces reg table whole roots marks left (key_at reg m) found)
+    × ((shut : List ℕ → Bool) (whole : List Way) (roots : List (List ℕ)) (marks : List Bool) (found : List Way) → Holds reg shut whole roots marks old found → Faces reg shut whole roots marks left (key_at reg m) found)
     × ((marks : List Bool) → Ready reg marks old → all_owed reg marks left + 1 ≤ all_owed reg marks old)
     × (IsSound reg → m < length reg.objects)
 took-member reg m old left t = (
   (λ marks r. subst (λ s. Ready reg marks s) (sym t.3) (ready-moved reg marks t.0 t.1 m t.4 (subst (λ s. Ready reg marks s) t.2 r))),
-  (λ table whole roots marks found h. subst (λ s. Faces reg table whole roots marks s (key_at reg m) found) (sym t.3) (faced reg table whole roots marks t.0 t.1 m found t.4 (subst (λ s. Holds reg table whole roots marks s found) t.2 h))),
+  (λ shut whole roots marks found h. subst (λ s. Faces reg shut whole roots marks s (key_at reg m) found) (sym t.3) (faced reg shut whole roots marks t.0 t.1 m found t.4 (subst (λ s. Holds reg shut whole roots marks s found) t.2 h))),
   (λ marks r. subst (λ s. all_owed reg marks s + 1 ≤ all_owed reg marks old) (sym t.3) (subst (λ s. all_owed reg marks (t.0 ++ entry t.1.place (t.1.taken + 1) ∷ []) + 1 ≤ all_owed reg marks s) (sym t.2) (owed-moved reg marks t.0 t.1 m t.4))),
   (λ sound. member-there reg t.1.place t.1.taken m sound t.4),
 )
 
 -- roots
-pub root-faced : (reg : Register) (table : List Bool) (whole : List Way) (roots : List (List ℕ)) (marks : List Bool) (found : List Way) (key : List ℕ) (p : ℕ)
-    → place_of reg key ≡ Some p → Holds reg table whole (key ∷ roots) marks [] found → Faces reg table whole roots marks [] (key_at reg p) found
-root-faced reg table whole roots marks found key p is h =
-    subst (λ k. Faces reg table whole roots marks [] k found) (found-below reg key p is).1
-    (facing-root (web_of reg (shut_by reg table)) (length reg.objects + 1) whole key roots (had_by reg marks found) found h)
+pub root-faced : (reg : Register) (shut : List ℕ → Bool) (whole : List Way) (roots : List (List ℕ)) (marks : List Bool) (found : List Way) (key : List ℕ) (p : ℕ)
+    → place_of reg key ≡ Some p → Holds reg shut whole (key ∷ roots) marks [] found → Faces reg shut whole roots marks [] (key_at reg p) found
+root-faced reg shut whole roots marks found key p is h =
+    subst (λ k. Faces reg shut whole roots marks [] k found) (found-below reg key p is).1
+    (facing-root (web_of reg shut) (length reg.objects + 1) whole key roots (had_by reg marks found) found h)
 
-pub stranger-holds : (reg : Register) (table : List Bool) (whole : List Way) (roots : List (List ℕ)) (marks : List Bool) (found : List Way) (key : List ℕ)
-    → place_of reg key ≡ None → Holds reg table whole (key ∷ roots) marks [] found
-    → Holds reg table whole roots marks [] (with_stranger (is_inside reg key) (among key (map (λ w. w.key) found)) found key)
-stranger-holds reg table whole roots marks found key none h = by_case (is_inside reg key) (among key (map (λ w. w.key) found)) refl refl
+pub stranger-holds : (reg : Register) (shut : List ℕ → Bool) (whole : List Way) (roots : List (List ℕ)) (marks : List Bool) (found : List Way) (key : List ℕ)
+    → place_of reg key ≡ None → shut key ≡ false → Holds reg shut whole (key ∷ roots) marks [] found
+    → Holds reg shut whole roots marks [] (with_stranger (is_inside reg key) (among key (map (λ w. w.key) found)) found key)
+stranger-holds reg shut whole roots marks found key none open-key h = by_case (is_inside reg key) (among key (map (λ w. w.key) found)) refl refl
   where
     web : Web
-    web = web_of reg (shut_by reg table)
+    web = web_of reg shut
 
     room : ℕ
     room = length reg.objects + 1
 
     had : List ℕ → Bool
     had = had_by reg marks found
-
-    open-key : shut_by reg table key ≡ false
-    open-key = ap (shut_at table) none
 
     nothing : web.next key ≡ []
     nothing = ap (λ b. if b then [] else members_of reg key) open-key ∙ ap (λ o. keys_at reg (members_in (object_at reg o))) none
@@ -482,7 +474,7 @@ stranger-holds reg table whole roots marks found key none h = by_case (is_inside
         grind (arith, common_steps, parts)
 
     by_case : (inside had-it : Bool) → is_inside reg key ≡ inside → among key (map (λ w. w.key) found) ≡ had-it
-        → Holds reg table whole roots marks [] (with_stranger inside had-it found key)
+        → Holds reg shut whole roots marks [] (with_stranger inside had-it found key)
     by_case true had-it i a = holding-nothing web room whole key roots had found nothing (end-is ∙ ap not i) h
     by_case false true i a = facing-skip web room whole roots had [] key found (had-is ∙ a) (facing-root web room whole key roots had found h)
     by_case false false i a =
@@ -514,12 +506,12 @@ all-unmarked (suc n) =
     let same : unmarked (replicate (suc n) false) ≡ unmarked (false ∷ replicate n false) = refl in
     omega (arith, rest, split, one, same)
 
-pub start-holds : (reg : Register) (table : List Bool) (roots : List (List ℕ))
-    → Holds reg table (first_of_each (all_ways reg (shut_by reg table) roots)) roots (no_marks reg.objects) [] []
-start-holds reg table roots =
+pub start-holds : (reg : Register) (shut : List ℕ → Bool) (roots : List (List ℕ))
+    → Holds reg shut (first_of_each (all_ways reg shut roots)) roots (no_marks reg.objects) [] []
+start-holds reg shut roots =
     let funs : (λ k. false) ≡ had_by reg (no_marks reg.objects) [] = λ j k. by_place k (place_of reg k) j in
-    subst (λ f. Holding (web_of reg (shut_by reg table)) (length reg.objects + 1) (first_of_each (all_ways reg (shut_by reg table) roots)) roots f [] []) funs
-    (holding-start (web_of reg (shut_by reg table)) (length reg.objects + 1) roots)
+    subst (λ f. Holding (web_of reg shut) (length reg.objects + 1) (first_of_each (all_ways reg shut roots)) roots f [] []) funs
+    (holding-start (web_of reg shut) (length reg.objects + 1) roots)
   where
     by_place : (k : List ℕ) (o : Option ℕ) → false ≡ marked_at (no_marks reg.objects) [] k o
     by_place k (Some q) = sym (all-false (length reg.objects) q)
@@ -534,9 +526,9 @@ start-ready reg sound = record {
   deep = let all : unmarked (no_marks reg.objects) ≡ length reg.objects = all-unmarked (length reg.objects) in omega (arith, all);
 }
 
-pub end-sum : (reg : Register) (table : List Bool) (whole : List Way) (marks : List Bool) (found : List Way)
-    → Holds reg table whole [] marks [] found → found ≡ whole
-end-sum reg table whole marks found h = sym (h.sum ∙ append-nil found)
+pub end-sum : (reg : Register) (shut : List ℕ → Bool) (whole : List Way) (marks : List Bool) (found : List Way)
+    → Holds reg shut whole [] marks [] found → found ≡ whole
+end-sum reg shut whole marks found h = sym (h.sum ∙ append-nil found)
 
 pub costs : CostsEntriesAndGroups
 costs [] = refl

@@ -86,14 +86,19 @@ open-table reg = table-is reg (λ k. false) (no_marks reg.objects)
     (record { long = length-replicate (length reg.objects) false; each = λ p h. all-false (length reg.objects) p })
     (λ k e. refl)
 
+pub open-leaves : (reg : Register) (roots : List (List ℕ)) → first_of_each (all_ways reg (λ k. false) roots) ≡ leaves reg (λ k. false) roots
+open-leaves reg roots = ap first_of_each (sym (filter-all (all_ways reg (λ k. false) roots)))
+
 pub all-leaves : (reg : Register) (roots : List (List ℕ)) → first_of_each (all_ways reg (shut_by reg (no_marks reg.objects)) roots) ≡ leaves reg (λ k. false) roots
-all-leaves reg roots =
-    ap (λ f. first_of_each (all_ways reg f roots)) (open-table reg) ∙ ap first_of_each (sym (filter-all (all_ways reg (λ k. false) roots)))
+all-leaves reg roots = ap (λ f. first_of_each (all_ways reg f roots)) (open-table reg) ∙ open-leaves reg roots
+
+-- What is no object isn't closed.
+pub not-closed : (reg : Register) (sender : Option (List ℕ)) (opened : List Gate) (k : List ℕ) → place_of reg k ≡ None → is_closed reg sender opened k ≡ false
+not-closed reg sender opened k e = ap (λ p. object_needs reg (object_at reg p) sender && not (list_any (opens k) opened)) e
 
 pub closed-table : (reg : Register) (sender : Option (List ℕ)) (opened : List Gate) (table : List Bool) → IsTable reg (is_closed reg sender opened) table
     → shut_by reg table ≡ is_closed reg sender opened
-closed-table reg sender opened table t = table-is reg (is_closed reg sender opened) table t
-    (λ k e. ap (λ p. object_needs reg (object_at reg p) sender && not (list_any (opens k) opened)) e)
+closed-table reg sender opened table t = table-is reg (is_closed reg sender opened) table t (not-closed reg sender opened)
 
 -- the unknown roots
 or-swap : (a b : Bool) → (b || a) ≡ (a || (b || false))

@@ -1,4 +1,5 @@
 pub mod Expansion
+pub mod Gates
 pub mod Marked
 pub mod Paths
 pub mod Places

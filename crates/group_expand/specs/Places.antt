@@ -5,7 +5,7 @@ use Rattle.group_expand.specs.Marked.{Frame, frame, Holding, Facing}
 use Rattle.org_directory.specs.declared.object.Object.{Object}
 use Rattle.group_expand.specs.declared.way.Way.{Way}
 use Rattle.group_expand.specs.declared.walk.Entered.{Entered}
-use Rattle.group_expand.specs.Routes.{web_of, shut_by}
+use Rattle.group_expand.specs.Routes.{web_of}
 
 abbrev pub places_of : Register → List Entered → List (List ℕ)
 places_of reg stack = map (λ e. key_at reg e.place) stack
@@ -15,8 +15,8 @@ is_no_group None = true
 is_no_group (Some o) = not (is_group o.kind)
 
 -- whether a way ends at the object of this place
-abbrev pub ends_at : Register → List Bool → ℕ → Bool
-ends_at reg table p = get_or table p false || is_no_group (slice_get reg.objects p)
+abbrev pub ends_at : Register → (List ℕ → Bool) → ℕ → Bool
+ends_at reg shut p = shut (key_at reg p) || is_no_group (slice_get reg.objects p)
 
 abbrev pub entry : ℕ → ℕ → Entered
 entry p k = record { place = p; taken = k }
@@ -50,13 +50,13 @@ abbrev pub unmarked : List Bool → ℕ
 unmarked marks = sum_by cost marks
 
 -- What is found, and the first ways of what a plain listing has before it, are the whole.
-abbrev pub Holds : Register → List Bool → List Way → List (List ℕ) → List Bool → List Entered → List Way → Type 0
-Holds reg table whole roots marks stack found =
-    Holding (web_of reg (shut_by reg table)) (length reg.objects + 1) whole roots (had_by reg marks found) (frames_of reg (reverse stack)) found
+abbrev pub Holds : Register → (List ℕ → Bool) → List Way → List (List ℕ) → List Bool → List Entered → List Way → Type 0
+Holds reg shut whole roots marks stack found =
+    Holding (web_of reg shut) (length reg.objects + 1) whole roots (had_by reg marks found) (frames_of reg (reverse stack)) found
 
-abbrev pub Faces : Register → List Bool → List Way → List (List ℕ) → List Bool → List Entered → List ℕ → List Way → Type 0
-Faces reg table whole roots marks stack key found =
-    Facing (web_of reg (shut_by reg table)) (length reg.objects + 1) whole roots (had_by reg marks found) (frames_of reg (reverse stack)) key found
+abbrev pub Faces : Register → (List ℕ → Bool) → List Way → List (List ℕ) → List Bool → List Entered → List ℕ → List Way → Type 0
+Faces reg shut whole roots marks stack key found =
+    Facing (web_of reg shut) (length reg.objects + 1) whole roots (had_by reg marks found) (frames_of reg (reverse stack)) key found
 
 abbrev pub price : Object → Bool → ℕ
 price o true = 0

@@ -2,6 +2,7 @@
 #![tactic(auto)]
 
 mod approval;
+mod gates;
 pub mod laws;
 mod outcome;
 mod plain;

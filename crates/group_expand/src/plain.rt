@@ -1,17 +1,47 @@
 // Expansion by listing all paths, as the definition says it. It is slow, and the walk gives the same.
-ghost use Rattle.std.specs.Prelude.{◌≡◌, ◌<◌, ◌++◌, [], ◌∷◌, false, not, All, IfOk, OnOk, length, map, option_copied};
+ghost use Rattle.std.specs.Prelude.{◌≡◌, ◌<◌, ◌++◌, [], ◌∷◌, false, not, All, IfOk, OnOk, length, map, filter, option_copied};
 ghost use Rattle.org_directory.specs.Register.{among, keys_at};
 ghost use Rattle.group_expand.specs.Expansion.{closed_of, expanded, is_closed, leaf_of, Gives};
-ghost use Rattle.group_expand.specs.Routes.{all_ways, closed_met, kept, keys_of, leaves, shut_by, web_of};
+ghost use Rattle.group_expand.specs.Routes.{IsTable, all_ways, closed_met, kept, keys_of, leaves, shut_by, web_of};
 ghost use Rattle.group_expand.specs.Ways.{first_of_each, here, ways};
 
+use crate::gates::is_shut;
 use crate::outcome::{Closed, ExpandFault, Expansion, Leaf};
-use crate::routes::{closed_table, has_key, is_shut_by, parted, unknown_roots};
+use crate::routes::{has_key, put, unknown_roots};
 use crate::walk::is_found;
 use crate::way::Way;
 use mail_names::{Gate, Items, Key, NoMemory};
 use org_directory::{Directory, Kind};
 use std::alloc::Global;
+
+/// For each place whether its object is closed.
+fn closed_table(
+    alloc: Global,
+    directory: &Directory,
+    sender: Option<&Key>,
+    opened: &[Gate],
+) -> Result<Vec<bool>, NoMemory>
+    ensures { IfOk result (λ t. IsTable directory.now (is_closed directory.now (option_copied sender.entry) opened.now) t.items) }
+{
+    directory.is_sound();
+    let mut table = Vec::new(alloc);
+    let count = directory.len() as u32;
+    for id in 0..count {
+        table.push(is_shut(alloc, directory, id, sender, opened)?)?;
+    }
+    Ok(table)
+}
+
+/// Whether the table says that the object of this key is closed.
+fn is_shut_by(directory: &Directory, table: &[bool], key: &Key) -> bool
+    requires { length table.now ≡ length directory.now.objects }
+    ensures { result ≡ shut_by directory.now table.now key.now }
+{
+    match directory.find(key) {
+        Some(place) => table[place as usize],
+        None => false,
+    }
+}
 
 fn copied(alloc: Global, keys: &[Key]) -> Result<Items<Key>, NoMemory>
     ensures { IfOk result (λ copy. copy ≡ keys.now) }
@@ -162,6 +192,26 @@ fn first_ways(
 {
     let ways = all_ways(alloc, directory, table, roots)?;
     first_of_each(alloc, ways.into_vec())
+}
+
+/// The ways in two parts: those to leaves, and those to closed objects.
+fn parted(
+    alloc: Global,
+    directory: &Directory,
+    table: &[bool],
+    ways: Vec<Way>,
+) -> Result<(Items<Leaf>, Items<Closed>), NoMemory>
+    requires { length table.now ≡ length directory.now.objects }
+    ensures leaves { IfOk result (λ parts. parts.0 ≡ map leaf_of (filter (λ w. not (shut_by directory.now table.now w.key)) ways.items)) }
+    ensures closed { IfOk result (λ parts. parts.1 ≡ map closed_of (filter (λ w. shut_by directory.now table.now w.key) ways.items)) }
+{
+    let mut leaves = Items::new(alloc);
+    let mut closed = Items::new(alloc);
+    for way in ways {
+        let is_closed = is_shut_by(directory, table, &way.key);
+        put(is_closed, way, &mut leaves, &mut closed)?;
+    }
+    Ok((leaves, closed))
 }
 
 fn leaf_count(alloc: Global, directory: &Directory, roots: &[Key]) -> Result<usize, NoMemory>

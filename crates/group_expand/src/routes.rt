@@ -1,12 +1,12 @@
 // Expansion: leaves, closed objects and unknown roots, each by its first path.
-ghost use Rattle.std.specs.Prelude.{◌≡◌, ◌<◌, ◌≤◌, ◌+◌, ◌*◌, ◌++◌, false, not, IfOk, OnOk, length, map, filter, option_copied};
-ghost use Rattle.std.specs.List.{list_any};
-ghost use Rattle.org_directory.specs.Register.{among, key_at, place_of, is_inside};
-ghost use Rattle.group_expand.specs.Routes.{leaves, unknown, shut_by, kept, closed_met, is_unknown, with_unknown, IsTable};
+ghost use Rattle.std.specs.Prelude.{◌≡◌, ◌≤◌, ◌+◌, ◌*◌, ◌++◌, false, not, IfOk, OnOk, length, map, filter, option_copied};
+ghost use Rattle.org_directory.specs.Register.{among, place_of, is_inside};
+ghost use Rattle.group_expand.specs.Routes.{leaves, unknown, kept, closed_met, is_unknown, with_unknown};
+ghost use Rattle.group_expand.specs.Gates.{HasRoom, shuts};
 ghost use Rattle.group_expand.specs.Places.{owed, no_marks, entries, groups};
-ghost use Rattle.group_expand.specs.Expansion.{opens, is_closed, expanded, leaf_of, closed_of, Gives};
+ghost use Rattle.group_expand.specs.Expansion.{is_closed, expanded, leaf_of, closed_of, Gives};
 
-use crate::approval::needs_approval;
+use crate::gates::Gates;
 use crate::outcome::{Closed, ExpandFault, Expansion, Leaf};
 use crate::walk::first_ways;
 use crate::way::Way;
@@ -15,71 +15,8 @@ use org_directory::Directory;
 use std::alloc::Global;
 use std::sync::ledger::Ledger;
 
-fn is_gate_of(key: &Key, gate: &Gate) -> bool
-    ensures { result ≡ opens key.now gate.now }
-{
-    match gate {
-        Gate::Object { key: k } => key.bytes() == k.bytes(),
-        Gate::Rule { .. } => false,
-    }
-}
-
-fn is_opened(key: &Key, opened: &[Gate]) -> bool
-    ensures { result ≡ list_any (opens key.now) opened.now }
-{
-    opened.iter().any(|gate| is_gate_of(key, gate))
-}
-
-/// Whether the object at a place needs approval and its gate isn't opened.
-fn is_shut(
-    alloc: Global,
-    directory: &Directory,
-    id: u32,
-    sender: Option<&Key>,
-    opened: &[Gate],
-) -> Result<bool, NoMemory>
-    requires { id < length directory.now.objects }
-    ensures { IfOk result (λ b. b ≡ is_closed directory.now (option_copied sender.entry) opened.now (key_at directory.now id)) }
-{
-    let needs = needs_approval(alloc, directory, id, sender)?;
-    if !needs {
-        return Ok(false);
-    }
-    let open = is_opened(&directory.object(id).key, opened);
-    Ok(!open)
-}
-
-/// For each place whether its object is closed.
-pub fn closed_table(
-    alloc: Global,
-    directory: &Directory,
-    sender: Option<&Key>,
-    opened: &[Gate],
-) -> Result<Vec<bool>, NoMemory>
-    ensures { IfOk result (λ t. IsTable directory.now (is_closed directory.now (option_copied sender.entry) opened.now) t.items) }
-{
-    directory.is_sound();
-    let mut table = Vec::new(alloc);
-    let count = directory.len() as u32;
-    for id in 0..count {
-        table.push(is_shut(alloc, directory, id, sender, opened)?)?;
-    }
-    Ok(table)
-}
-
-/// Whether the table says that the object of this key is closed.
-pub fn is_shut_by(directory: &Directory, table: &[bool], key: &Key) -> bool
-    requires { length table.now ≡ length directory.now.objects }
-    ensures { result ≡ shut_by directory.now table.now key.now }
-{
-    match directory.find(key) {
-        Some(place) => table[place as usize],
-        None => false,
-    }
-}
-
 /// Puts a way among the closed objects or among the leaves.
-fn put(
+pub fn put(
     is_closed: bool,
     way: Way,
     leaves: &mut Items<Leaf>,
@@ -98,20 +35,20 @@ fn put(
 }
 
 /// The ways in two parts: those to leaves, and those to closed objects.
-pub fn parted(
+fn parted(
     alloc: Global,
     directory: &Directory,
-    table: &[bool],
+    gates: &mut Gates<'_>,
     ways: Vec<Way>,
 ) -> Result<(Items<Leaf>, Items<Closed>), NoMemory>
-    requires { length table.now ≡ length directory.now.objects }
-    ensures leaves { IfOk result (λ parts. parts.0 ≡ map leaf_of (filter (λ w. not (shut_by directory.now table.now w.key)) ways.items)) }
-    ensures closed { IfOk result (λ parts. parts.1 ≡ map closed_of (filter (λ w. shut_by directory.now table.now w.key) ways.items)) }
+    requires { HasRoom directory.now gates.old }
+    ensures leaves { IfOk result (λ parts. parts.0 ≡ map leaf_of (filter (λ w. not (shuts directory.now gates.old w.key)) ways.items)) }
+    ensures closed { IfOk result (λ parts. parts.1 ≡ map closed_of (filter (λ w. shuts directory.now gates.old w.key) ways.items)) }
 {
     let mut leaves = Items::new(alloc);
     let mut closed = Items::new(alloc);
     for way in ways {
-        let is_closed = is_shut_by(directory, table, &way.key);
+        let is_closed = gates.shuts(alloc, directory, &way.key)?;
         put(is_closed, way, &mut leaves, &mut closed)?;
     }
     Ok((leaves, closed))
@@ -130,9 +67,9 @@ fn met<L: Ledger>(
     ensures closed { IfOk result (λ parts. parts.1 ≡ map closed_of (closed_met directory.now (is_closed directory.now (option_copied sender.entry) opened.now) roots.now)) }
     ensures cost { steps.new ≤ steps.old + owed directory.now.objects (no_marks directory.now.objects) }
 {
-    let table = closed_table(alloc, directory, sender, opened)?;
-    let ways = first_ways(alloc, directory, table.as_slice(), roots, steps)?;
-    parted(alloc, directory, table.as_slice(), ways.into_vec())
+    let mut gates = Gates::new(alloc, directory, sender, opened)?;
+    let ways = first_ways(alloc, directory, &mut gates, roots, steps)?;
+    parted(alloc, directory, &mut gates, ways.into_vec())
 }
 
 /// How many leaves there are with every gate taken as opened.
@@ -145,8 +82,8 @@ fn leaf_count<L: Ledger>(
     ensures count { IfOk result (λ n. n ≡ length (leaves directory.now (λ k. false) roots.now)) }
     ensures cost { steps.new ≤ steps.old + owed directory.now.objects (no_marks directory.now.objects) }
 {
-    let table = vec![in alloc; false; directory.len()]?;
-    let ways = first_ways(alloc, directory, table.as_slice(), roots, steps)?;
+    let mut gates = Gates::all_open(alloc, directory)?;
+    let ways = first_ways(alloc, directory, &mut gates, roots, steps)?;
     Ok(ways.len())
 }
 

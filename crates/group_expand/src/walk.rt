@@ -1,13 +1,15 @@
 // The marked walk: each object is met once, and members are taken through `member_at` alone.
-ghost use Rattle.std.specs.Prelude.{◌≡◌, ◌+◌, ◌-◌, ◌<◌, ◌≤◌, ◌++◌, ℕ, List, false, IfOk, OnOk, All, length, slice_get, slice_set, [], ◌∷◌, get_or, map, Some, None, Bool};
+ghost use Rattle.std.specs.Prelude.{◌≡◌, ◌+◌, ◌-◌, ◌<◌, ◌≤◌, ◌++◌, ◌||◌, ℕ, List, false, IfOk, OnOk, All, length, slice_get, slice_set, [], ◌∷◌, get_or, map, Some, None, Bool};
 ghost use Rattle.std.specs.List.{list_any};
 ghost use Rattle.std.specs.Str.{bytes_eq};
 ghost use Rattle.org_directory.specs.Register.{among, IsSound, key_at, is_inside, place_of};
 ghost use Rattle.group_expand.specs.Ways.{first_of_each, here};
 ghost use Rattle.group_expand.specs.declared.way.Way.{Way};
-ghost use Rattle.group_expand.specs.Routes.{all_ways, shut_by};
-ghost use Rattle.group_expand.specs.Places.{places_of, ends_at, entered, entry, all_owed, owed, no_marks, Ready, Holds, Faces, Took, with_stranger};
+ghost use Rattle.group_expand.specs.Routes.{all_ways};
+ghost use Rattle.group_expand.specs.Gates.{HasRoom, shuts, ShutsSame};
+ghost use Rattle.group_expand.specs.Places.{places_of, is_no_group, entered, entry, all_owed, owed, no_marks, Ready, Holds, Faces, Took, with_stranger};
 
+use crate::gates::Gates;
 use crate::way::Way;
 use mail_names::{Items, Key, NoMemory, Steps};
 use org_directory::{Directory, Kind};
@@ -43,30 +45,28 @@ fn way(alloc: Global, directory: &Directory, stack: &[Entered], place: u32) -> R
     Ok(Way { route, key })
 }
 
-fn is_end(directory: &Directory, closed: &[bool], place: u32) -> bool
-    requires place { place < length directory.now.objects }
-    requires table { length closed.now ≡ length directory.now.objects }
-    ensures { result ≡ ends_at directory.now closed.now place }
+fn is_end(directory: &Directory, is_closed: bool, place: u32) -> bool
+    requires { place < length directory.now.objects }
+    ensures { result ≡ (is_closed || is_no_group (slice_get directory.now.objects place)) }
 {
-    closed[place as usize] || !matches!(directory.object(place).kind, Kind::Group)
+    is_closed || !matches!(directory.object(place).kind, Kind::Group)
 }
 
 /// Meets an object that wasn't met before: its way is found, or it is entered.
 fn meet(
     alloc: Global,
     directory: &Directory,
-    closed: &[bool],
+    is_end: bool,
     place: u32,
     stack: &mut Vec<Entered>,
     found: &mut Items<Way>,
 ) -> Result<(), NoMemory>
     requires stack { All (λ e. e.place < length directory.now.objects) stack.old.items }
     requires place { place < length directory.now.objects }
-    requires table { length closed.now ≡ length directory.now.objects }
-    ensures entered { OnOk result (stack.new.items ≡ entered (ends_at directory.now closed.now place) stack.old.items place) }
-    ensures found { OnOk result (found.new ≡ found.old ++ here (ends_at directory.now closed.now place) (places_of directory.now stack.old.items) (key_at directory.now place)) }
+    ensures entered { OnOk result (stack.new.items ≡ entered is_end stack.old.items place) }
+    ensures found { OnOk result (found.new ≡ found.old ++ here is_end (places_of directory.now stack.old.items) (key_at directory.now place)) }
 {
-    if is_end(directory, closed, place) {
+    if is_end {
         let way = way(alloc, directory, stack.as_slice(), place)?;
         found.push(way)?;
         return Ok(());
@@ -79,22 +79,25 @@ fn meet(
 fn visit(
     alloc: Global,
     directory: &Directory,
-    closed: &[bool],
+    gates: &mut Gates<'_>,
     place: u32,
     marks: &mut [bool],
     stack: &mut Vec<Entered>,
     found: &mut Items<Way>,
 ) -> Result<(), NoMemory>
-    requires table { length closed.now ≡ length directory.now.objects }
+    requires room { HasRoom directory.now gates.old }
     requires place { place < length directory.now.objects }
     requires new { get_or marks.old place false ≡ false }
     requires ready { Ready directory.now marks.old stack.old.items }
     ensures ready { OnOk result (Ready directory.now marks.new stack.new.items) }
-    ensures met { (whole : List Way) → (roots : List (List ℕ)) → OnOk result (Faces directory.now closed.now whole roots marks.old stack.old.items (key_at directory.now place) found.old → Holds directory.now closed.now whole roots marks.new stack.new.items found.new) }
+    ensures gates { OnOk result (ShutsSame directory.now gates.old gates.new) }
+    ensures met { (whole : List Way) → (roots : List (List ℕ)) → OnOk result (Faces directory.now (shuts directory.now gates.old) whole roots marks.old stack.old.items (key_at directory.now place) found.old → Holds directory.now (shuts directory.now gates.old) whole roots marks.new stack.new.items found.new) }
     ensures owed { OnOk result (all_owed directory.now marks.new stack.new.items ≤ all_owed directory.now marks.old stack.old.items) }
 {
     marks[place as usize] = true;
-    meet(alloc, directory, closed, place, stack, found)?;
+    let is_closed = gates.is_shut(alloc, directory, place)?;
+    let is_end = is_end(directory, is_closed, place);
+    meet(alloc, directory, is_end, place, stack, found)?;
     Ok(())
 }
 
@@ -129,17 +132,18 @@ fn next_member<L: Ledger>(
 fn step<L: Ledger>(
     alloc: Global,
     directory: &Directory,
-    closed: &[bool],
+    gates: &mut Gates<'_>,
     marks: &mut [bool],
     stack: &mut Vec<Entered>,
     found: &mut Items<Way>,
     steps: &mut Steps<L>,
 ) -> Result<(), NoMemory>
-    requires table { length closed.now ≡ length directory.now.objects }
+    requires room { HasRoom directory.now gates.old }
     requires ready { Ready directory.now marks.old stack.old.items }
     requires more { 0 < length stack.old.items }
     ensures ready { OnOk result (Ready directory.now marks.new stack.new.items) }
-    ensures holds { (whole : List Way) → (roots : List (List ℕ)) → OnOk result (Holds directory.now closed.now whole roots marks.old stack.old.items found.old → Holds directory.now closed.now whole roots marks.new stack.new.items found.new) }
+    ensures gates { OnOk result (ShutsSame directory.now gates.old gates.new) }
+    ensures holds { (whole : List Way) → (roots : List (List ℕ)) → OnOk result (Holds directory.now (shuts directory.now gates.old) whole roots marks.old stack.old.items found.old → Holds directory.now (shuts directory.now gates.old) whole roots marks.new stack.new.items found.new) }
     ensures owed { OnOk result (all_owed directory.now marks.new stack.new.items + 1 ≤ all_owed directory.now marks.old stack.old.items) }
     ensures cost { steps.new ≡ steps.old + 1 }
 {
@@ -149,7 +153,7 @@ fn step<L: Ledger>(
             if marks[member as usize] {
                 return Ok(());
             }
-            visit(alloc, directory, closed, member, marks, stack, found)?;
+            visit(alloc, directory, gates, member, marks, stack, found)?;
             Ok(())
         }
     }
@@ -159,22 +163,23 @@ fn step<L: Ledger>(
 fn run<L: Ledger>(
     alloc: Global,
     directory: &Directory,
-    closed: &[bool],
+    gates: &mut Gates<'_>,
     marks: &mut [bool],
     stack: &mut Vec<Entered>,
     found: &mut Items<Way>,
     steps: &mut Steps<L>,
 ) -> Result<(), NoMemory>
-    requires table { length closed.now ≡ length directory.now.objects }
+    requires room { HasRoom directory.now gates.old }
     requires ready { Ready directory.now marks.old stack.old.items }
     ensures ready { OnOk result (Ready directory.now marks.new stack.new.items) }
+    ensures gates { OnOk result (ShutsSame directory.now gates.old gates.new) }
     ensures done { OnOk result (stack.new.items ≡ []) }
-    ensures holds { (whole : List Way) → (roots : List (List ℕ)) → OnOk result (Holds directory.now closed.now whole roots marks.old stack.old.items found.old → Holds directory.now closed.now whole roots marks.new stack.new.items found.new) }
+    ensures holds { (whole : List Way) → (roots : List (List ℕ)) → OnOk result (Holds directory.now (shuts directory.now gates.old) whole roots marks.old stack.old.items found.old → Holds directory.now (shuts directory.now gates.old) whole roots marks.new stack.new.items found.new) }
     ensures cost { OnOk result (steps.new + all_owed directory.now marks.new stack.new.items ≤ steps.old + all_owed directory.now marks.old stack.old.items) }
     ensures bound { steps.new ≤ steps.old + all_owed directory.now marks.old stack.old.items }
 {
     while !stack.is_empty() {
-        step(alloc, directory, closed, marks, stack, found, steps)?;
+        step(alloc, directory, gates, marks, stack, found, steps)?;
     }
     Ok(())
 }
@@ -223,19 +228,20 @@ fn stranger(
 fn root_step<L: Ledger>(
     alloc: Global,
     directory: &Directory,
-    closed: &[bool],
+    gates: &mut Gates<'_>,
     root: &Key,
     marks: &mut [bool],
     stack: &mut Vec<Entered>,
     found: &mut Items<Way>,
     steps: &mut Steps<L>,
 ) -> Result<(), NoMemory>
-    requires table { length closed.now ≡ length directory.now.objects }
+    requires room { HasRoom directory.now gates.old }
     requires ready { Ready directory.now marks.old stack.old.items }
     requires empty { stack.old.items ≡ [] }
     ensures ready { OnOk result (Ready directory.now marks.new stack.new.items) }
+    ensures gates { OnOk result (ShutsSame directory.now gates.old gates.new) }
     ensures done { OnOk result (stack.new.items ≡ []) }
-    ensures holds { (whole : List Way) → (roots : List (List ℕ)) → OnOk result (Holds directory.now closed.now whole (root.now ∷ roots) marks.old [] found.old → Holds directory.now closed.now whole roots marks.new [] found.new) }
+    ensures holds { (whole : List Way) → (roots : List (List ℕ)) → OnOk result (Holds directory.now (shuts directory.now gates.old) whole (root.now ∷ roots) marks.old [] found.old → Holds directory.now (shuts directory.now gates.old) whole roots marks.new [] found.new) }
     ensures cost { OnOk result (steps.new + all_owed directory.now marks.new [] ≤ steps.old + all_owed directory.now marks.old []) }
     ensures bound { steps.new ≤ steps.old + all_owed directory.now marks.old [] }
 {
@@ -248,8 +254,8 @@ fn root_step<L: Ledger>(
             if marks[place as usize] {
                 return Ok(());
             }
-            visit(alloc, directory, closed, place, marks, stack, found)?;
-            run(alloc, directory, closed, marks, stack, found, steps)?;
+            visit(alloc, directory, gates, place, marks, stack, found)?;
+            run(alloc, directory, gates, marks, stack, found, steps)?;
             Ok(())
         }
     }
@@ -259,14 +265,15 @@ fn root_step<L: Ledger>(
 fn walk_roots<L: Ledger>(
     alloc: Global,
     directory: &Directory,
-    closed: &[bool],
+    gates: &mut Gates<'_>,
     roots: &[Key],
     marks: &mut [bool],
     steps: &mut Steps<L>,
 ) -> Result<Items<Way>, NoMemory>
-    requires table { length closed.now ≡ length directory.now.objects }
+    requires room { HasRoom directory.now gates.old }
     requires fresh { marks.old ≡ no_marks directory.now.objects }
-    ensures ways { IfOk result (λ ws. ws ≡ first_of_each (all_ways directory.now (shut_by directory.now closed.now) roots.now)) }
+    ensures ways { IfOk result (λ ws. ws ≡ first_of_each (all_ways directory.now (shuts directory.now gates.old) roots.now)) }
+    ensures gates { OnOk result (ShutsSame directory.now gates.old gates.new) }
     ensures cost { steps.new ≤ steps.old + owed directory.now.objects (no_marks directory.now.objects) }
 {
     directory.is_sound();
@@ -274,7 +281,7 @@ fn walk_roots<L: Ledger>(
     let mut found = Items::new(alloc);
     for root in roots {
         root_step(
-            alloc, directory, closed, root, marks, &mut stack, &mut found, steps,
+            alloc, directory, gates, root, marks, &mut stack, &mut found, steps,
         )?;
     }
     Ok(found)
@@ -284,14 +291,15 @@ fn walk_roots<L: Ledger>(
 pub fn first_ways<L: Ledger>(
     alloc: Global,
     directory: &Directory,
-    closed: &[bool],
+    gates: &mut Gates<'_>,
     roots: &[Key],
     steps: &mut Steps<L>,
 ) -> Result<Items<Way>, NoMemory>
-    requires table { length closed.now ≡ length directory.now.objects }
-    ensures ways { IfOk result (λ ws. ws ≡ first_of_each (all_ways directory.now (shut_by directory.now closed.now) roots.now)) }
+    requires room { HasRoom directory.now gates.old }
+    ensures ways { IfOk result (λ ws. ws ≡ first_of_each (all_ways directory.now (shuts directory.now gates.old) roots.now)) }
+    ensures gates { OnOk result (ShutsSame directory.now gates.old gates.new) }
     ensures cost { steps.new ≤ steps.old + owed directory.now.objects (no_marks directory.now.objects) }
 {
     let mut marks = vec![in alloc; false; directory.len()]?;
-    walk_roots(alloc, directory, closed, roots, &mut marks, steps)
+    walk_roots(alloc, directory, gates, roots, &mut marks, steps)
 }

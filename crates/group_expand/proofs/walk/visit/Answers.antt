@@ -1,8 +1,9 @@
-use Rattle.std.proofs.Common.{subst, sym, arith, set}
-use Rattle.group_expand.specs.Places.{Holds, Ready, all_owed, ends_at, places_of}
+use Rattle.std.proofs.Common.{◌≡◌, ◌∙◌, ap, subst, sym, arith, set}
+use Rattle.group_expand.specs.Gates.{shuts}
+use Rattle.group_expand.specs.Places.{Holds, Ready, all_owed, ends_at, entered, is_no_group, places_of}
 use Rattle.org_directory.specs.Register.{key_at}
 use Rattle.group_expand.specs.Ways.{here}
-use Rattle.std.specs.Prelude.{◌++◌, ◌≤◌, true}
+use Rattle.std.specs.Prelude.{◌++◌, ◌||◌, ◌≤◌, true, slice_get}
 use Rattle.group_expand.proofs.Steps.{visited, ready-visited, owed-visited}
 use Rattle.group_expand.proofs.walk.visit.Goals as goal
 
@@ -10,19 +11,29 @@ pub returns-clause-ready : goal.returns-clause-ready
 returns-clause-ready c =
     subst (λ s. Ready c.args.directory.now (set c.args.marks.now c.args.place true) s) (sym c.in_ok-meet.ensures.entered)
     (ready-visited c.args.directory.now c.args.marks.now c.args.stack.now.items c.args.place
-    (ends_at c.args.directory.now c.args.closed.now c.args.place) c.requires.place c.requires.new c.requires.ready)
+    c.is_end-is_end.result c.requires.place c.requires.new c.requires.ready)
 
 pub returns-clause-owed : goal.returns-clause-owed
 returns-clause-owed c =
+    let ends : c.is_end-is_end.result ≡ ends_at c.args.directory.now (shuts c.args.directory.now c.args.gates.now) c.args.place
+    = c.is_end-is_end.ensures ∙ ap (λ b. b || is_no_group (slice_get c.args.directory.now.objects c.args.place)) c.in_ok-is_closed.ensures.answer in
+    let stack : c.meet.new.stack.items ≡ entered (ends_at c.args.directory.now (shuts c.args.directory.now c.args.gates.now) c.args.place) c.args.stack.now.items c.args.place
+    = c.in_ok-meet.ensures.entered ∙ ap (λ b. entered b c.args.stack.now.items c.args.place) ends in
     subst (λ s. all_owed c.args.directory.now (set c.args.marks.now c.args.place true) s ≤ all_owed c.args.directory.now c.args.marks.now c.args.stack.now.items)
-    (sym c.in_ok-meet.ensures.entered)
-    (owed-visited c.args.directory.now c.args.closed.now c.args.marks.now c.args.stack.now.items c.args.place c.requires.place c.requires.new c.requires.ready.long)
+    (sym stack)
+    (owed-visited c.args.directory.now (shuts c.args.directory.now c.args.gates.now) c.args.marks.now c.args.stack.now.items c.args.place c.requires.place c.requires.new c.requires.ready.long)
 
 pub returns-clause-met : goal.returns-clause-met
 returns-clause-met c = λ whole roots facing.
-    subst (λ f. Holds c.args.directory.now c.args.closed.now whole roots (set c.args.marks.now c.args.place true) c.meet.new.stack.items f) (sym c.in_ok-meet.ensures.found)
-    (subst (λ s. Holds c.args.directory.now c.args.closed.now whole roots (set c.args.marks.now c.args.place true) s
-    (c.args.found.now ++ here (ends_at c.args.directory.now c.args.closed.now c.args.place) (places_of c.args.directory.now c.args.stack.now.items) (key_at c.args.directory.now c.args.place)))
-    (sym c.in_ok-meet.ensures.entered)
-    (visited c.args.directory.now c.args.closed.now whole roots c.args.marks.now c.args.stack.now.items c.args.found.now c.args.place
+    let ends : c.is_end-is_end.result ≡ ends_at c.args.directory.now (shuts c.args.directory.now c.args.gates.now) c.args.place
+    = c.is_end-is_end.ensures ∙ ap (λ b. b || is_no_group (slice_get c.args.directory.now.objects c.args.place)) c.in_ok-is_closed.ensures.answer in
+    let stack : c.meet.new.stack.items ≡ entered (ends_at c.args.directory.now (shuts c.args.directory.now c.args.gates.now) c.args.place) c.args.stack.now.items c.args.place
+    = c.in_ok-meet.ensures.entered ∙ ap (λ b. entered b c.args.stack.now.items c.args.place) ends in
+    let found : c.meet.new.found ≡ c.args.found.now ++ here (ends_at c.args.directory.now (shuts c.args.directory.now c.args.gates.now) c.args.place) (places_of c.args.directory.now c.args.stack.now.items) (key_at c.args.directory.now c.args.place)
+    = c.in_ok-meet.ensures.found ∙ ap (λ b. c.args.found.now ++ here b (places_of c.args.directory.now c.args.stack.now.items) (key_at c.args.directory.now c.args.place)) ends in
+    subst (λ f. Holds c.args.directory.now (shuts c.args.directory.now c.args.gates.now) whole roots (set c.args.marks.now c.args.place true) c.meet.new.stack.items f) (sym found)
+    (subst (λ s. Holds c.args.directory.now (shuts c.args.directory.now c.args.gates.now) whole roots (set c.args.marks.now c.args.place true) s
+    (c.args.found.now ++ here (ends_at c.args.directory.now (shuts c.args.directory.now c.args.gates.now) c.args.place) (places_of c.args.directory.now c.args.stack.now.items) (key_at c.args.directory.now c.args.place)))
+    (sym stack)
+    (visited c.args.directory.now (shuts c.args.directory.now c.args.gates.now) whole roots c.args.marks.now c.args.stack.now.items c.args.found.now c.args.place
     c.requires.ready.sound c.requires.place c.requires.ready.long c.requires.new (omega (arith, c.requires.ready.deep)) facing))

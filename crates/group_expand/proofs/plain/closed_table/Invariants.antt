@@ -1,7 +1,7 @@
 use Rattle.std.proofs.Common.{◌≡◌, ◌<◌, ℕ, length, get_or, false, option_copied}
 use Rattle.org_directory.specs.Register.{key_at}
 use Rattle.group_expand.specs.Expansion.{is_closed}
-use Rattle.group_expand.proofs.routes.closed_table.Given as goal
+use Rattle.group_expand.proofs.plain.closed_table.Given as goal
 
 abbrev pub invariant-loop-id : goal.invariant-loop-id
 invariant-loop-id l =

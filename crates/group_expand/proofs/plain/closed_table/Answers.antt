@@ -2,7 +2,7 @@ use Rattle.std.proofs.Common.{◌≡◌, ◌++◌, ◌∷◌, [], option_copied}
 use Rattle.group_expand.specs.Expansion.{is_closed}
 use Rattle.org_directory.specs.Register.{key_at}
 use Rattle.group_expand.proofs.Table.{table-more}
-use Rattle.group_expand.proofs.routes.closed_table.Goals as goal
+use Rattle.group_expand.proofs.plain.closed_table.Goals as goal
 
 pub loop-id-preserved : goal.loop-id-preserved
 loop-id-preserved c =

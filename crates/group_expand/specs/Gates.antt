@@ -1,0 +1,28 @@
+-- Which objects the gates of an expansion shut.
+use Rattle.std.specs.Prelude.{◌≡◌, ℕ, Bool, false, List, length, get_or, Option, Some, None, option_copied}
+use Rattle.org_directory.specs.Register.{Register, place_of}
+use Rattle.group_expand.specs.Expansion.{is_closed}
+use Rattle.group_expand.specs.declared.gates.Gates.{Gates}
+
+-- what is known, or else what would be answered
+abbrev pub decided : Option Bool → Bool → Bool
+decided None answer = answer
+decided (Some b) answer = b
+
+-- the answer at the place of an object, by what is known and by what would be answered; no object is not shut
+abbrev pub answered : List (Option Bool) → Bool → Option ℕ → Bool
+answered known answer None = false
+answered known answer (Some p) = decided (get_or known p None) answer
+
+-- whether the gates shut the object of this key
+abbrev pub shuts : Register → Gates → List ℕ → Bool
+shuts reg gates key = answered gates.known.items (is_closed reg (option_copied gates.sender) gates.opened.now key) (place_of reg key)
+
+-- there is room for an answer at each place
+abbrev pub HasRoom : Register → Gates → Type 0
+HasRoom reg gates = length gates.known.items ≡ length reg.objects
+
+-- The gates shut the same objects, whatever more is known.
+pub record ShutsSame (reg : Register) (old after : Gates) : Type 0 where
+  pub room : HasRoom reg after
+  pub same : shuts reg after ≡ shuts reg old
