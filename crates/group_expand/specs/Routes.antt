@@ -4,6 +4,7 @@ use Rattle.std.specs.List.{flat_map}
 use Rattle.org_directory.specs.Register.{among, Register, key_at, is_inside, place_of, object_of, is_group, members_of}
 use Rattle.group_expand.specs.Ways.{Web, ways, here, first_of_each}
 use Rattle.org_directory.specs.declared.object.Object.{Object}
+use Rattle.group_expand.specs.declared.outcome.TheConstants.{MOST_LEAVES}
 use Rattle.group_expand.specs.declared.way.Way.{Way}
 
 -- an object that is no group is a leaf, and so is a key outside that is no object
@@ -47,7 +48,7 @@ unknown reg roots = keys_of (first_of_each (flat_map (λ k. here (is_unknown (pl
 
 -- more leaves than a submission may have, with every gate taken as opened
 abbrev pub too_many : Register → List (List ℕ) → Bool
-too_many reg roots = nat_lt 2000 (length (leaves reg (λ k. false) roots))
+too_many reg roots = nat_lt MOST_LEAVES (length (leaves reg (λ k. false) roots))
 
 -- Fewer objects are closed.
 abbrev pub Opens : (List ℕ → Bool) → (List ℕ → Bool) → Type 0

@@ -11,6 +11,6 @@ mod walk;
 mod way;
 
 pub use approval::needs_approval;
-pub use outcome::{Closed, ExpandFault, Expansion, Leaf};
+pub use outcome::{Closed, ExpandFault, Expansion, Leaf, MOST_LEAVES};
 pub use plain::expand_plainly;
 pub use routes::expand;

@@ -1,6 +1,9 @@
 // What an expansion gives.
 use mail_names::{Items, Key, NoMemory};
 
+/// The most leaves of an expansion.
+pub const MOST_LEAVES: usize = 2000;
+
 /// A mailbox, a contact or a key outside that mail goes to.
 #[derive(Drop)]
 pub struct Leaf {
@@ -31,7 +34,7 @@ pub struct Expansion {
 /// Why there is no expansion.
 #[derive(Clone, Copy, Debug, PartialEq, Eq)]
 pub enum ExpandFault {
-    /// There are more than 2,000 leaves with every gate taken as opened.
+    /// There are more than `MOST_LEAVES` leaves with every gate taken as opened.
     TooManyLeaves,
     /// Want of memory.
     NoMemory,

@@ -6,11 +6,11 @@ ghost use Rattle.group_expand.specs.Routes.{IsTable, all_ways, closed_met, kept,
 ghost use Rattle.group_expand.specs.Ways.{first_of_each, here, ways};
 
 use crate::gates::is_shut;
-use crate::outcome::{Closed, ExpandFault, Expansion, Leaf};
+use crate::outcome::{Closed, ExpandFault, Expansion, Leaf, MOST_LEAVES};
 use crate::routes::{has_key, put, unknown_roots};
 use crate::walk::is_found;
 use crate::way::Way;
-use mail_names::{Gate, Items, Key, NoMemory};
+use mail_names::{Gate, Items, Key, NoMemory, copied_keys};
 use org_directory::{Directory, Kind};
 use std::alloc::Global;
 
@@ -43,21 +43,11 @@ fn is_shut_by(directory: &Directory, table: &[bool], key: &Key) -> bool
     }
 }
 
-fn copied(alloc: Global, keys: &[Key]) -> Result<Items<Key>, NoMemory>
-    ensures { IfOk result (λ copy. copy ≡ keys.now) }
-{
-    let mut copy = Items::new(alloc);
-    for key in keys {
-        copy.push(key.copy(alloc)?)?;
-    }
-    Ok(copy)
-}
-
 /// The keys, and one more.
 fn longer(alloc: Global, keys: &[Key], key: &Key) -> Result<Items<Key>, NoMemory>
     ensures { IfOk result (λ more. more ≡ keys.now ++ key.now ∷ []) }
 {
-    let mut more = copied(alloc, keys)?;
+    let mut more = copied_keys(alloc, keys)?;
     more.push(key.copy(alloc)?)?;
     Ok(more)
 }
@@ -87,7 +77,7 @@ fn add_here(
     ensures { OnOk result (found.new ≡ found.old ++ here is_end passed.now key.now) }
 {
     if is_end {
-        let route = copied(alloc, passed)?;
+        let route = copied_keys(alloc, passed)?;
         let key = key.copy(alloc)?;
         found.push(Way { route, key })?;
         return Ok(());
@@ -247,7 +237,7 @@ pub fn expand_plainly(
 ) -> Result<Expansion, ExpandFault>
     ensures { Gives result (expanded directory.now roots.now (option_copied sender.entry) opened.now) }
 {
-    if leaf_count(alloc, directory, roots)? > 2000 {
+    if leaf_count(alloc, directory, roots)? > MOST_LEAVES {
         return Err(ExpandFault::TooManyLeaves);
     }
     let (leaves, closed) = met(alloc, directory, roots, sender, opened)?;

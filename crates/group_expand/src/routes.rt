@@ -7,7 +7,7 @@ ghost use Rattle.group_expand.specs.Places.{owed, no_marks, entries, groups};
 ghost use Rattle.group_expand.specs.Expansion.{is_closed, expanded, leaf_of, closed_of, Gives};
 
 use crate::gates::Gates;
-use crate::outcome::{Closed, ExpandFault, Expansion, Leaf};
+use crate::outcome::{Closed, ExpandFault, Expansion, Leaf, MOST_LEAVES};
 use crate::walk::first_ways;
 use crate::way::Way;
 use mail_names::{Gate, Items, Key, NoMemory, Steps};
@@ -133,7 +133,7 @@ pub fn unknown_roots(
 }
 
 /// What the roots expand to for a sender, with these gates opened: the leaves, the closed objects and the unknown roots,
-/// each once, by its first path. TooManyLeaves comes exactly where there are more than 2,000 leaves with every gate
+/// each once, by its first path. TooManyLeaves comes exactly where there are more than `MOST_LEAVES` leaves with every gate
 /// taken as opened. Each member that is read counts one step.
 #[tactic(auto, using(crate::proofs::Steps::costs_of))]
 pub fn expand<L: Ledger>(
@@ -147,7 +147,7 @@ pub fn expand<L: Ledger>(
     ensures gives { Gives result (expanded directory.now roots.now (option_copied sender.entry) opened.now) }
     ensures cost { steps.new ≤ steps.old + 2 * (entries directory.now.objects + groups directory.now.objects) }
 {
-    if leaf_count(alloc, directory, roots, steps)? > 2000 {
+    if leaf_count(alloc, directory, roots, steps)? > MOST_LEAVES {
         return Err(ExpandFault::TooManyLeaves);
     }
     let (leaves, closed) = met(alloc, directory, roots, sender, opened, steps)?;

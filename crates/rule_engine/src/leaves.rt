@@ -4,7 +4,7 @@ ghost use Rattle.rule_engine.specs.Run.{run_of, outcomes, with_text, end_texts, 
 
 use crate::recipient::{End, MadeCopy, judge};
 use crate::texts::Texts;
-use group_expand::Leaf;
+use group_expand::{Leaf, MOST_LEAVES};
 use mail_message::Message;
 use mail_names::{Bytes, Gate, Items, Key, NoMemory};
 use org_directory::Directory;
@@ -109,7 +109,7 @@ pub fn run_rules(
     moment: u64,
     opened: &[Gate],
 ) -> Result<Run, NoMemory>
-    requires leaves { length leaves.now ≤ 2000 }
+    requires leaves { length leaves.now ≤ MOST_LEAVES }
     ensures { IfOk result (λ run. run ≡
         run_of (outcomes book.now.rules (record { directory = directory.now; sender = option_copied sender.entry; moment = moment }) message.now opened.now leaves.now)) }
 {
