@@ -3,8 +3,7 @@ ghost use Rattle.std.specs.Prelude.{◌≡◌, ◌<◌, All, length, slice_get, 
 ghost use Rattle.org_directory.specs.Register.{object_of, keys_at, InRange};
 ghost use Rattle.categorizer.specs.Releasing.{approvers, rule_approvers, rule_name, object_approvers, object_tell, object_label, rule_label, hold_of};
 
-use crate::copies::copied_keys;
-use mail_names::{Bytes, Gate, Items, Key, NoMemory, copied_gate};
+use mail_names::{Bytes, Gate, Items, Key, NoMemory, copied_gate, copied_keys};
 use mail_plan::Hold;
 use moderation::Tell;
 use org_directory::{Directory, Object};

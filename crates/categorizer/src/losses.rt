@@ -3,9 +3,9 @@ ghost use Rattle.std.specs.Prelude.{◌≡◌, ◌≤◌, ◌++◌, ◌==◌, le
 ghost use Rattle.categorizer.specs.declared.parts.Rejection.{Rejection};
 ghost use Rattle.categorizer.specs.Releasing.{rejected_by, rule_losses, unknown_loss};
 
-use crate::copies::{copied_keys, copied_rejection};
+use crate::copies::copied_rejection;
 use crate::parts::{Loss, Rejection};
-use mail_names::{Bytes, Items, Key, NoMemory};
+use mail_names::{Bytes, Items, Key, NoMemory, copied_keys};
 use rule_terms::Rule;
 use std::alloc::Global;
 

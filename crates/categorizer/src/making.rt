@@ -4,14 +4,13 @@ ghost use Rattle.categorizer.specs.Releasing.{end_of, release_from, release_of, 
 
 use crate::HubOrg;
 use crate::content::content_of;
-use crate::copies::copied_keys;
 use crate::drafts::drafts_of;
 use crate::letter::letter_of;
 use crate::numbering::numbered;
 use crate::parts::{Content, Draft, Loss};
 use crate::reports::journaled;
 use mail_message::Message;
-use mail_names::{Items, NoMemory};
+use mail_names::{Items, NoMemory, copied_keys};
 use mail_plan::{End, Release, ReleaseInput};
 use std::alloc::Global;
 

@@ -2,11 +2,10 @@
 ghost use Rattle.std.specs.Prelude.{◌≡◌, IfOk, OnOk, fold, map};
 ghost use Rattle.categorizer.specs.Plan.{is_target, with_send, route_why, kept_at, redirected, copy_send, beside_of, kept, beside, sends};
 
-use crate::copies::copied_keys;
 use crate::parts::{Judged, Send};
 use group_expand::Leaf;
 use journal_report::Why;
-use mail_names::{Bytes, Items, Key, NoMemory};
+use mail_names::{Bytes, Items, Key, NoMemory, copied_keys};
 use rule_engine::{End, MadeCopy, RuleOutcome};
 use std::alloc::Global;
 

@@ -93,7 +93,11 @@ impl Answer {
             }
         }
         if begun {
-            self.line(if cr { "\\r without an end" } else { " without an end" })?;
+            self.line(if cr {
+                "\\r without an end"
+            } else {
+                " without an end"
+            })?;
         }
         Ok(())
     }

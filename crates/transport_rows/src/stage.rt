@@ -96,7 +96,14 @@ impl Stage {
         let message = taken(alloc, &mut self.said)?;
         let said = dialogue(alloc, envelope, &message)?;
         let mut replies = Answer::new(alloc);
-        let status = talk(alloc, &mut self.plant, self.moment, said, 4096, &mut replies)?;
+        let status = talk(
+            alloc,
+            &mut self.plant,
+            self.moment,
+            said,
+            4096,
+            &mut replies,
+        )?;
         add_status(alloc, status, out)
     }
 
