@@ -19,7 +19,7 @@ use Rattle.smtp_front.specs.declared.session_end.SessionEnd.{SessionEnd}
 use Rattle.smtp_front.specs.declared.session_end.SessionEnd.TheVariants as ends
 use Rattle.smtp_front.specs.Events.{Held, nothing, fed}
 use Rattle.smtp_front.specs.Turns.{Turn, Steps, Did}
-use Rattle.smtp_front.specs.Sessions.{Stays, Waits, Closes, Begins, Halts, Breaks, WentOn, Greets, Spoke}
+use Rattle.smtp_front.specs.Sessions.{StaysOpen, Waits, Closes, Begins, Halts, Breaks, WentOn, Greets, Spoke}
 use Rattle.mail_transport.specs.Answers.{HistoryGives}
 use Rattle.mail_transport.specs.HubSetup.{hub_setup}
 
@@ -96,7 +96,7 @@ module _ {I : Type 0} (gives : I → IntakeStep → I → Type 0) (state : I →
         record { h' = done.h'; told = record { steps = done.told; clock = did.clock; sink = did.sink }; at = done.at }
 
     stays_told : (a b : I) (new : ℕ → Option ℕ) (now : Option (List ℕ)) (phase' : Phase) (h : List Entry) → Stays gives phase held a b old new taken now phase' → At a h → Quiet a b →
-        Goes h b (λ h'. Stays HistoryGives phase held h h' old new taken now phase')
+        Goes h b (λ h'. StaysOpen HistoryGives phase held h h' old new taken now phase')
     stays_told a b new now phase' h s at quiet =
         let done = did_told s.turns a b new now h s.did at quiet in
         record { h' = done.h'; told = record { turns = s.turns; after = s.after; goes = s.goes; on = s.on; did = done.told }; at = done.at }
