@@ -20,6 +20,21 @@ fn read<P: Plant>(
     answer(out, line.as_str())
 }
 
+// A place has 32 bits, so that no write ends past the last place of a file.
+fn write<P: Plant>(
+    alloc: Global,
+    plant: &mut P,
+    rest: &str,
+    out: &mut Bytes,
+) -> Result<(), NoMemory> {
+    let (at, text) = cut(rest);
+    let octets = read_octets(alloc, text)?;
+    let at = at.parse::<u32>().unwrap_or(0);
+    let written = plant.write_at(at as u64, octets.as_slice());
+    let line = format!(in alloc; "{written:?}")?;
+    answer(out, line.as_str())
+}
+
 // Calls on the log file.
 fn on_file<P: Plant>(
     alloc: Global,
@@ -33,13 +48,7 @@ fn on_file<P: Plant>(
             read(alloc, plant, rest, out)?;
             return Ok(true);
         }
-        "write" => {
-            let (at, text) = cut(rest);
-            let octets = read_octets(alloc, text)?;
-            let at = at.parse::<u64>().unwrap_or(0);
-            let line = format!(in alloc; "{:?}", plant.write_at(at, octets.as_slice()))?;
-            answer(out, line.as_str())?;
-        }
+        "write" => write(alloc, plant, rest, out)?,
         "sync" => {
             let line = format!(in alloc; "{:?}", plant.sync())?;
             answer(out, line.as_str())?;
