@@ -95,7 +95,7 @@ module _ {I : Type 0} (gives : I → IntakeStep → I → Type 0) (state : I →
         let done = all_done _ a b h did.steps at quiet in
         record { h' = done.h'; told = record { steps = done.told; clock = did.clock; sink = did.sink }; at = done.at }
 
-    stays_told : (a b : I) (new : ℕ → Option ℕ) (now : Option (List ℕ)) (phase' : Phase) (h : List Entry) → Stays gives phase held a b old new taken now phase' → At a h → Quiet a b →
+    stays_told : (a b : I) (new : ℕ → Option ℕ) (now : Option (List ℕ)) (phase' : Phase) (h : List Entry) → StaysOpen gives phase held a b old new taken now phase' → At a h → Quiet a b →
         Goes h b (λ h'. StaysOpen HistoryGives phase held h h' old new taken now phase')
     stays_told a b new now phase' h s at quiet =
         let done = did_told s.turns a b new now h s.did at quiet in

@@ -76,7 +76,10 @@ impl Intake for Answers {
                 Err(fault)
             }
             Some(Ok(accepted)) => Ok(accepted),
-            None => accepted(1),
+            None => Ok(Accepted {
+                number: 1,
+                repeat: false,
+            }),
         }
     }
 

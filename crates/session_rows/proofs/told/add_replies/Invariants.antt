@@ -1,0 +1,10 @@
+-- The last reply is text.
+use denote.Shadow.{shadow}
+use denote.Text.{Utf8}
+use Rattle.session_rows.proofs.told.add_replies.Given as goal
+
+abbrev pub invariant-loop-line : goal.invariant-loop-line
+invariant-loop-line l =
+    (goal.iterator-loop-line).can_next l.line-iterator ×
+    (goal.iterator-loop-line).is_finite l.line-iterator ×
+    shadow (Utf8 l.last)
