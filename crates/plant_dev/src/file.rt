@@ -84,8 +84,9 @@ impl<R: Files + Drop> FilePlant<R> {
         let path = format!(in alloc; "{folder}/queue.log")?;
         if !fs::exists(&rt, folder)? {
             fs::create_dir_all(&rt, folder)?;
-            sync_folder(&rt, parent_of(folder))?;
         }
+        // Also where the folder is there: what made it may have been cut off before it was synced.
+        sync_folder(&rt, parent_of(folder))?;
         let mut how = OpenOptions::new();
         how.read(true).write(true).create(true);
         let log = how.open(&rt, path.as_str())?;
