@@ -1,12 +1,11 @@
 -- The text of a log with one entry more.
-use Rattle.std.proofs.Common.{◌≡◌, ◌⊎◌, inl, inr, ℕ, ◌+◌, List, [], ◌∷◌, ◌++◌, length, sym, ◌∙◌, ap, subst, arith, append_assoc, length-append}
+use Rattle.std.proofs.Common.{◌≡◌, ℕ, ◌+◌, List, [], ◌∷◌, ◌++◌, length, sym, ◌∙◌, ap, arith, append_assoc, length-append}
 use Rattle.std.specs.Prelude.{codes}
 use Rattle.std.proofs.lemmas.List.{append-nil, map-append}
 use Rattle.mail_plan.specs.declared.entry.Entry.{Entry}
 use Rattle.std.specs.List.{AllByRecursion}
-use Rattle.mail_plan.specs.Entries.{IsEntry}
 use Rattle.mail_plan.specs.EntryText.{le64, entry_text}
-use Rattle.queue_disk.specs.Log.{records, log_text, payloads, log_of, Frames, LogOf, Shut, Opened, OneMore}
+use Rattle.queue_disk.specs.Log.{records, log_text, payloads, log_of}
 use Rattle.mail_plan.proofs.Offered.{length-le64}
 
 pub records-push : (ps : List (List ℕ)) (payload : List ℕ) → records (ps ++ payload ∷ []) ≡ records ps ++ 1 ∷ (le64 (length payload) ++ payload)
@@ -24,25 +23,6 @@ pub length-log_text : (ps : List (List ℕ)) (payload : List ℕ) → length (lo
 length-log_text ps payload =
     omega (arith, ap length (log_text-push ps payload), length-append (log_text ps) (1 ∷ (le64 (length payload) ++ payload)), length-append (le64 (length payload)) payload, length-le64 (length payload))
 
--- behind an open gate the record and a closed gate make one entry more
-pub opened_is : (ps : List (List ℕ)) (payload file : List ℕ) → Opened (log_text ps) (le64 (length payload) ++ (payload ++ 0 ∷ [])) file → Shut (log_text (ps ++ payload ∷ [])) file
-opened_is ps payload file opened = record {
-  gate = 0;
-  rest = opened.rest;
-  text =
-      opened.text
-      ∙ ap (λ (l : List ℕ). log_text ps ++ 1 ∷ l) (inner opened.rest)
-      ∙ sym (append_assoc (log_text ps) (1 ∷ (le64 (length payload) ++ payload)) (0 ∷ opened.rest))
-      ∙ ap (λ (l : List ℕ). l ++ 0 ∷ opened.rest) (sym (log_text-push ps payload));
-  shut = λ e. omega (arith, e);
-}
-  where
-    inner : (rest : List ℕ) → (le64 (length payload) ++ (payload ++ 0 ∷ [])) ++ rest ≡ (le64 (length payload) ++ payload) ++ 0 ∷ rest
-    inner rest =
-        append_assoc (le64 (length payload)) (payload ++ 0 ∷ []) rest
-        ∙ ap (λ (l : List ℕ). le64 (length payload) ++ l) (append_assoc payload (0 ∷ []) rest)
-        ∙ sym (append_assoc (le64 (length payload)) payload (0 ∷ rest))
-
 pub payloads-push : (h : List Entry) (entry : Entry) → payloads (h ++ entry ∷ []) ≡ payloads h ++ entry_text entry ∷ []
 payloads-push h entry = map-append entry_text h (entry ∷ [])
 
@@ -53,15 +33,3 @@ length-push h entry =
 pub all-push : {X : Type 0} (P : X → Type 0) (xs : List X) (x : X) → AllByRecursion P xs → P x → AllByRecursion P (xs ++ x ∷ [])
 all-push P [] x each one = (one, tt)
 all-push P (y ∷ xs) x each one = (each.0, all-push P xs x each.1 one)
-
-pub opened_entry : (h : List Entry) (entry : Entry) (file bytes : List ℕ) → AllByRecursion IsEntry h → Frames bytes entry → Opened (log_of h) bytes file → LogOf file (h ++ entry ∷ [])
-opened_entry h entry file bytes each frames opened = record {
-  entries = all-push IsEntry h entry each frames.entry;
-  text =
-      subst (λ (ps : List (List ℕ)). Shut (log_text ps) file) (sym (payloads-push h entry))
-      (opened_is (payloads h) (entry_text entry) file (subst (λ (b : List ℕ). Opened (log_of h) b file) frames.text opened));
-}
-
-pub one_more : (h : List Entry) (entry : Entry) (file bytes : List ℕ) → AllByRecursion IsEntry h → Frames bytes entry → Shut (log_of h) file ⊎ Opened (log_of h) bytes file → OneMore h entry file
-one_more h entry file bytes each frames (inl shut) = inl (inr (record { entries = each; text = shut }))
-one_more h entry file bytes each frames (inr opened) = inr (inr (opened_entry h entry file bytes each frames opened))

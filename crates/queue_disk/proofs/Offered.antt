@@ -1,3 +1,4 @@
 -- What crates above cite of these proofs.
 pub use Rattle.queue_disk.proofs.Beginning.{begins_more}
-pub use Rattle.queue_disk.proofs.Whole.{same_payload}
+pub use Rattle.queue_disk.proofs.Pending.{all-append, file_of, place_of}
+pub use Rattle.queue_disk.proofs.Whole.{one_log, same_payload}

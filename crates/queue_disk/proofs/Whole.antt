@@ -20,7 +20,7 @@ module _ (x e after more : List ℕ) (small : length x < 2 ^ 64) (also : length 
   sizes = le64_same (length x) (length e) small also
       (sym (take_at (le64 (length x)) (x ++ after) 8 (length-le64 (length x))) ∙ ap (λ (l : List ℕ). take 8 l) same ∙ take_at (le64 (length e)) (e ++ more) 8 (length-le64 (length e)))
 
-  tails : x ++ after ≡ e ++ more
+  pub tails : x ++ after ≡ e ++ more
   tails = sym (drop_at (le64 (length x)) (x ++ after) 8 (length-le64 (length x))) ∙ ap (λ (l : List ℕ). drop 8 l) same ∙ drop_at (le64 (length e)) (e ++ more) 8 (length-le64 (length e))
 
   pub one_payload : x ≡ e
@@ -138,8 +138,42 @@ pub fault_at : (rest : List ℕ) (place : ℕ) (e : LogFault) (result : Result (
 fault_at rest place e (Ok found) same answer = absurd same
 fault_at rest place e (Err f) same answer = subst (λ (g : LogFault). PlaceAnswer rest place (Err g)) (sym same) (place_err rest place e answer)
 
+-- The log of entries is that of no others.
+records_same : (h k : List Entry) (gate other : ℕ) (more rest : List ℕ) → gate ≢ 1 → other ≢ 1 → AllByRecursion IsEntry h → AllByRecursion IsEntry k →
+    length (records (payloads h) ++ gate ∷ more) < 2 ^ 64 → records (payloads h) ++ gate ∷ more ≡ records (payloads k) ++ other ∷ rest → h ≡ k
+records_same [] [] gate other more rest shut closed each all small same = refl
+records_same [] (y ∷ k) gate other more rest shut closed each all small same = (let one : gate ≡ 1 = cc same in absurd (shut one))
+records_same (x ∷ h) [] gate other more rest shut closed each all small same = (let one : other ≡ 1 = cc same in absurd (closed one))
+records_same (x ∷ h) (y ∷ k) gate other more rest shut closed each all small same =
+    let t = entry_text x in
+    let u = entry_text y in
+    let after = records (payloads h) ++ gate ∷ more in
+    let then = records (payloads k) ++ other ∷ rest in
+    let first : records (payloads (x ∷ h)) ++ gate ∷ more ≡ 1 ∷ (le64 (length t) ++ (t ++ after)) =
+    ap (λ (l : List ℕ). 1 ∷ l) (append_assoc (le64 (length t)) (t ++ records (payloads h)) (gate ∷ more) ∙ ap (λ (l : List ℕ). le64 (length t) ++ l) (append_assoc t (records (payloads h)) (gate ∷ more))) in
+    let second : records (payloads (y ∷ k)) ++ other ∷ rest ≡ 1 ∷ (le64 (length u) ++ (u ++ then)) =
+    ap (λ (l : List ℕ). 1 ∷ l) (append_assoc (le64 (length u)) (u ++ records (payloads k)) (other ∷ rest) ∙ ap (λ (l : List ℕ). le64 (length u) ++ l) (append_assoc u (records (payloads k)) (other ∷ rest))) in
+    let whole : 1 ∷ (le64 (length t) ++ (t ++ after)) ≡ 1 ∷ (le64 (length u) ++ (u ++ then)) = sym first ∙ same ∙ second in
+    let behind : le64 (length t) ++ (t ++ after) ≡ le64 (length u) ++ (u ++ then) = ap (λ (l : List ℕ). drop 1 l) whole in
+    let own = length-append (le64 (length t)) (t ++ after) in
+    let theirs = length-append (le64 (length u)) (u ++ then) in
+    let fits : length t < 2 ^ 64 = omega (arith, small, ap length first, own, length-append t after) in
+    let also : length u < 2 ^ 64 = omega (arith, small, ap length first, ap length whole, theirs, length-append u then) in
+    let texts : t ≡ u = one_payload t u after then fits also behind in
+    let left : after ≡ then =
+    sym (drop_at t after (length t) refl) ∙ ap (λ (l : List ℕ). drop (length t) l) (tails t u after then fits also behind) ∙ drop_at u then (length t) (ap length (sym texts)) in
+    let one : x ≡ y = (one_entry x y [] [] each.0 all.0 (ap (λ (l : List ℕ). l ++ []) texts)).0 in
+    let others : h ≡ k = records_same h k gate other more rest shut closed each.1 all.1 (omega (arith, small, ap length first, own, length-append t after)) left in
+    λ i. one i ∷ others i
+
+pub one_log : (file : List ℕ) (h k : List Entry) → length file < 2 ^ 64 → LogOf file h → LogOf file k → h ≡ k
+one_log file h k small log other =
+    let first : drop 8 file ≡ records (payloads h) ++ log.text.gate ∷ log.text.rest = ap (λ (l : List ℕ). drop 8 l) log.text.text in
+    let second : drop 8 file ≡ records (payloads k) ++ other.text.gate ∷ other.text.rest = ap (λ (l : List ℕ). drop 8 l) other.text.text in
+    records_same h k log.text.gate other.text.gate log.text.rest other.text.rest log.text.shut other.text.shut log.entries other.entries (omega (arith, small, ap length first, length-drop 8 file)) (sym first ∙ second)
+
 -- before the first entry
-pub unread : (file : List ℕ) (h : List Entry) (most : ℕ) → LogOf file h → length file < 2 ^ 64 → IsRead file h [] (record { place = 8; gate = 8; most = most; held = [] })
+pub unread : (file : List ℕ) (h : List Entry) (most : ℕ) → LogOf file h → length file < 2 ^ 64 → IsRead file h [] (record { place = 8; pending = 0; gate = 8; most = most; held = [] })
 unread file h most log small = record {
   later = h;
   gate = log.text.gate;
