@@ -8,15 +8,13 @@ use Rattle.mail_plan.specs.declared.entry.Entry.TheVariants as entries
 use Rattle.plant_dev.specs.declared.plant.Stored.{Stored}
 use Rattle.plant_dev.specs.declared.plant.ShelfFault.{ShelfFault}
 use Rattle.plant_dev.specs.declared.plant.ShelfFault.TheVariants as faults
-use Rattle.plant_dev.specs.Disk.{Image}
 use Rattle.plant_dev.specs.Shelf.{Has, HasNoNameTwice, Puts, PutBy}
 use Rattle.plant_dev.proofs.Offered.{no_name_twice_more}
-use Rattle.queue_disk.specs.Log.{FileOf}
 use Rattle.hub_core.specs.Setup.{Setup}
 use Rattle.hub_core.specs.declared.queue.QueuedItem.{QueuedItem}
 use Rattle.hub_core.specs.Items.{items, Among, IsDelivered, IsStep}
 use Rattle.hub_core.proofs.Offered.{older, history-push}
-use Rattle.queue_store.specs.Stands.{Stands, IsWithin, IsShelved, stored_of, item_from}
+use Rattle.queue_store.specs.Stands.{IsShelfOf, IsWithin, IsShelved, stored_of, item_from}
 use Rattle.queue_store.specs.Ready.{IsTrueOf}
 
 within_older : (setup : Setup) (h : List Entry) (e : Entry) (shelf : List Stored) → IsWithin setup h shelf → IsWithin setup (h ++ e ∷ []) shelf
@@ -50,24 +48,17 @@ delivered_all : (setup : Setup) (h : List Entry) (e : Entry) (name : ItemName) (
 delivered_all setup h e name shelf all told d =
     shelved_older setup h e name shelf (elim (delivered_push h e name d) [ inl a ↦ all name a | inr b ↦ delivered_one setup h e name shelf told b ])
 
--- one entry more, over the same shelf
-pub stands-push : (setup : Setup) (c c' : Image) (h : List Entry) (e : Entry) → Stands setup c h → IsStep setup h e → IsTrueOf setup h e c.shelf → c'.shelf ≡ c.shelf → FileOf c'.file (h ++ e ∷ []) → Stands setup c' (h ++ e ∷ [])
-stands-push setup c c' h e stands step told same file = record {
-  history = history-push setup h e stands.history step;
-  file = file;
-  within = subst (λ (shelf : List Stored). IsWithin setup (h ++ e ∷ []) shelf) (sym same) (within_older setup h e c.shelf stands.within);
-  once = subst HasNoNameTwice (sym same) stands.once;
-  delivered = λ name d. subst (λ (shelf : List Stored). IsShelved setup (h ++ e ∷ []) name shelf) (sym same) (delivered_all setup h e name c.shelf stands.delivered told d);
-}
+delivered_all_by : (setup : Setup) (h : List Entry) (e : Entry) (shelf : List Stored) → ((name : ItemName) → IsDelivered name h → IsShelved setup h name shelf) → IsTrueOf setup h e shelf →
+    (name : ItemName) → IsDelivered name (h ++ e ∷ []) → IsShelved setup (h ++ e ∷ []) name shelf
+delivered_all_by setup h e shelf all told name d = delivered_all setup h e name shelf all told d
 
--- the same entries, over the same shelf
-pub stands-same : (setup : Setup) (c c' : Image) (h : List Entry) → Stands setup c h → c'.shelf ≡ c.shelf → FileOf c'.file h → Stands setup c' h
-stands-same setup c c' h stands same file = record {
-  history = stands.history;
-  file = file;
-  within = subst (λ (shelf : List Stored). IsWithin setup h shelf) (sym same) stands.within;
-  once = subst HasNoNameTwice (sym same) stands.once;
-  delivered = λ name d. subst (λ (shelf : List Stored). IsShelved setup h name shelf) (sym same) (stands.delivered name d);
+-- one entry more, over the same shelf
+pub shelf-push : (setup : Setup) (h : List Entry) (e : Entry) (shelf : List Stored) → IsShelfOf setup h shelf → IsStep setup h e → IsTrueOf setup h e shelf → IsShelfOf setup (h ++ e ∷ []) shelf
+shelf-push setup h e shelf stands step told = record {
+  history = history-push setup h e stands.history step;
+  within = within_older setup h e shelf stands.within;
+  once = stands.once;
+  delivered = delivered_all_by setup h e shelf stands.delivered told;
 }
 
 within_more : (setup : Setup) (h : List Entry) (x : QueuedItem) (shelf : List Stored) → IsWithin setup h shelf → Among x (items setup h) → IsWithin setup h (shelf ++ stored_of x ∷ [])
@@ -99,20 +90,19 @@ keeps_once item old after (inl there) once = subst HasNoNameTwice (sym there.1) 
 keeps_once item old after (inr comes) once = no_name_twice_more old after item comes.0 comes.1 once
 
 -- a prescribed item was put
-pub stands-put : (setup : Setup) (c c' : Image) (h : List Entry) (x : QueuedItem) → Stands setup c h → Among x (items setup h) → c'.file ≡ c.file → Puts (stored_of x) c.shelf c'.shelf → Stands setup c' h
-stands-put setup c c' h x stands among same puts = record {
+pub shelf-put : (setup : Setup) (h : List Entry) (x : QueuedItem) (old after : List Stored) → IsShelfOf setup h old → Among x (items setup h) → Puts (stored_of x) old after → IsShelfOf setup h after
+shelf-put setup h x old after stands among puts = record {
   history = stands.history;
-  file = subst (λ (f : List ℕ). FileOf f h) (sym same) stands.file;
-  within = keeps_within setup h x c.shelf c'.shelf among puts stands.within;
-  once = keeps_once (stored_of x) c.shelf c'.shelf puts stands.once;
+  within = keeps_within setup h x old after among puts stands.within;
+  once = keeps_once (stored_of x) old after puts stands.once;
   delivered = λ name d. (let s = stands.delivered name d in
-      record { item = s.item; among = s.among; named = s.named; there = keeps_has (stored_of x) c.shelf c'.shelf s.item.folder s.item.name puts s.there });
+      record { item = s.item; among = s.among; named = s.named; there = keeps_has (stored_of x) old after s.item.folder s.item.name puts s.there });
 }
 
 -- a prescribed item was put, or wasn't, whatever was answered
-pub stands-put-by : (setup : Setup) (result : Result (Unit {0}) ShelfFault) (c c' : Image) (h : List Entry) (x : QueuedItem) → Stands setup c h → Among x (items setup h) → c'.file ≡ c.file →
-    PutBy result (stored_of x) c.shelf c'.shelf → Stands setup c' h
-stands-put-by setup (Ok done) c c' h x stands among same by = stands-put setup c c' h x stands among same by
-stands-put-by setup (Err faults.Failed) c c' h x stands among same (inl kept) = stands-same setup c c' h stands kept (subst (λ (f : List ℕ). FileOf f h) (sym same) stands.file)
-stands-put-by setup (Err faults.Failed) c c' h x stands among same (inr puts) = stands-put setup c c' h x stands among same puts
-stands-put-by setup (Err faults.NoMemory) c c' h x stands among same kept = stands-same setup c c' h stands kept (subst (λ (f : List ℕ). FileOf f h) (sym same) stands.file)
+pub shelf-put-by : (setup : Setup) (result : Result (Unit {0}) ShelfFault) (h : List Entry) (x : QueuedItem) (old after : List Stored) → IsShelfOf setup h old → Among x (items setup h) →
+    PutBy result (stored_of x) old after → IsShelfOf setup h after
+shelf-put-by setup (Ok done) h x old after stands among by = shelf-put setup h x old after stands among by
+shelf-put-by setup (Err faults.Failed) h x old after stands among (inl kept) = subst (λ (shelf : List Stored). IsShelfOf setup h shelf) (sym kept) stands
+shelf-put-by setup (Err faults.Failed) h x old after stands among (inr puts) = shelf-put setup h x old after stands among puts
+shelf-put-by setup (Err faults.NoMemory) h x old after stands among kept = subst (λ (shelf : List Stored). IsShelfOf setup h shelf) (sym kept) stands

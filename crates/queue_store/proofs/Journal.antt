@@ -5,16 +5,18 @@ use Rattle.std.specs.List.{AllByRecursion}
 use Rattle.mail_plan.specs.Entries.{IsEntry}
 use Rattle.mail_plan.specs.declared.entry.Entry.{Entry}
 use Rattle.plant_dev.specs.Disk.{State}
+use Rattle.queue_disk.proofs.Offered.{all-append}
 use Rattle.hub_core.specs.Setup.{Setup}
 use Rattle.hub_core.specs.Items.{IsHistory}
 use Rattle.hub_core.specs.Journal.{IsJournaled}
 use Rattle.queue_store.specs.Ready.{Kept, Adds}
 
 -- where lawful histories are, that which some entries were added to is
-pub journaled : (setup : Setup) (s : State) (hub : Kept) (h es : List Entry) →
+pub journaled : (setup : Setup) (s s' : State) (hub : Kept) (h t es : List Entry) →
     ((history : List Entry) → IsHistory setup history → AllByRecursion IsEntry history → IsJournaled setup history) →
-    Adds setup s hub h es → IsJournaled setup (h ++ es)
-journaled setup s hub h es law adds = law (h ++ es) adds.ready.stands.history adds.ready.log.file.entries
+    Adds setup s s' hub h t es → IsJournaled setup (h ++ (t ++ es))
+journaled setup s s' hub h t es law adds =
+    law (h ++ (t ++ es)) (adds.ready.then s'.image adds.ready.image).history (all-append IsEntry h (t ++ es) adds.ready.log.entries adds.ready.log.more)
 
 -- what follows from what holds where there is a value
 pub on_ok : {A E P Q : Type 0} (result : Result A E) → (P → Q) → OnOk result P → OnOk result Q

@@ -2,6 +2,11 @@ pub mod Growing
 pub mod Journal
 pub mod Opening
 pub mod Planning
+pub mod Settling
+pub mod Adding
+pub mod Runs
+pub mod Delivering
 pub mod Stepping
 pub mod Turning
+pub mod Finishing
 pub mod Offered

@@ -1,78 +1,24 @@
 -- Runs of calls: categorising release by release, and trying item by item.
-use Rattle.std.proofs.Common.{◌≡◌, ℕ, ◌+◌, ◌<◌, ◌≤◌, cond, Bool, true, false, List, [], ◌∷◌, ◌++◌, length, get_or, drop, refl, ap, ◌∙◌, sym, subst, arith, append_assoc, append-nil}
-use Rattle.std.specs.Prelude.{◌||◌, fold, not}
+use Rattle.std.proofs.Common.{◌≡◌, ℕ, ◌+◌, ◌<◌, ◌≤◌, cond, Bool, true, false, List, [], ◌∷◌, ◌++◌, length, get_or, drop, refl, ap, ◌∙◌, sym, subst, arith, append_assoc, append-nil, Result, Ok, Err}
+use Rattle.std.specs.Prelude.{◌||◌, fold, not, OnOk, IfErr}
 use Rattle.std.proofs.lemmas.List.{drop_more}
 use Rattle.std.proofs.lemmas.Grind.{fold-append}
 use Rattle.mail_names.specs.declared.name.ItemName.{ItemName}
 use Rattle.mail_plan.specs.declared.entry.Entry.{Entry}
 use Rattle.port_io.specs.Causes.{Rose, RoseBy}
-use Rattle.plant_dev.specs.Disk.{State}
+use Rattle.plant_dev.specs.Disk.{State, LeavesOnly}
 use Rattle.hub_core.specs.Setup.{Setup}
-use Rattle.hub_core.specs.Standing.{Standing, start, state_after}
+use Rattle.hub_core.specs.Standing.{Standing, start, standing, state_after}
 use Rattle.queue_store.specs.declared.fault.HubFault.{HubFault}
-use Rattle.queue_store.specs.declared.fault.HubFault.TheVariants as faults
-use Rattle.queue_store.specs.Room.{Fits, IsFull}
-use Rattle.queue_store.specs.Ready.{Kept, IsReady, Adds, Leaves, Stops}
+use Rattle.queue_store.specs.Ready.{Kept, Before, Mended, Grows, Turns, TurnStops}
+use Rattle.queue_store.specs.Turning.{LeadsTurn, Done, FailsOpened, FailsPartly}
+use Rattle.queue_store.proofs.Finishing.{done_behind, partly_behind}
+use Rattle.queue_store.proofs.Runs.{leads_through}
 use Rattle.mail_plan.specs.declared.entry.Entry.TheVariants as entries
 use Rattle.std.specs.Prelude.{nat_lt}
 use Rattle.hub_core.specs.declared.live.TaskName.{TaskName}
 use Rattle.hub_core.specs.Standing.{now_of, any_pends}
 use Rattle.queue_store.specs.Calls.{after_entries, entries_at, entries_all, entries_try, entries_tries, entries_trying, entries_turn, moment_entry, misses}
-
--- the state goes on by what was added
-pub state-goes : (setup : Setup) (s s' : State) (hub hub' : Kept) (h es : List Entry) → IsReady setup s hub h → IsReady setup s' hub' (h ++ es) → hub'.state ≡ after_entries setup hub.state es
-state-goes setup s s' hub hub' h es before after =
-    after.state ∙ fold-append (state_after setup) (start setup) h es ∙ ap (λ (st : Standing). fold (state_after setup) st es) (sym before.state)
-
-fits-joined : (most : ℕ) (h xs ys : List Entry) → Fits most h xs → Fits most (h ++ xs) ys → Fits most h (xs ++ ys)
-fits-joined most h [] ys first second = subst (λ (g : List Entry). Fits most g ys) (append-nil h) second
-fits-joined most h (x ∷ xs) ys first second =
-    (first.0, fits-joined most (h ++ x ∷ []) xs ys first.1 (subst (λ (g : List Entry). Fits most g ys) (sym (append_assoc h (x ∷ []) xs)) second))
-
--- one run of entries behind another
-pub adds-joined : (setup : Setup) (s s' : State) (hub hub' : Kept) (h xs ys : List Entry) → Adds setup s hub h xs → Adds setup s' hub' (h ++ xs) ys → Adds setup s' hub' h (xs ++ ys)
-adds-joined setup s s' hub hub' h xs ys first second = record {
-  ready = subst (λ (g : List Entry). IsReady setup s' hub' g) (append_assoc h xs ys) second.ready;
-  fits = fits-joined setup.limits.log h xs ys first.fits second.fits;
-}
-
-full-more : (most : ℕ) (h left rest : List Entry) (octets : ℕ) → IsFull most h left octets → IsFull most h (left ++ rest) octets
-full-more most h [] rest octets full = absurd full
-full-more most h (x ∷ left) rest octets full = full
-
-leaves-more : (most : ℕ) (h left rest : List Entry) (e : HubFault) → Leaves most h left e → Leaves most h (left ++ rest) e
-leaves-more most h left rest faults.DiskFault why = why
-leaves-more most h left rest faults.NoMemory why = why
-leaves-more most h left rest (faults.QueueFull live bytes) why = why
-leaves-more most h left rest (faults.LogFull octets) why = full-more most h left rest octets why
-leaves-more most h left rest (faults.NotALog at) why = why
-leaves-more most h left rest (faults.Org fault) why = why
-leaves-more most h left rest (faults.EpochsFull live) why = why
-leaves-more most h left rest faults.NoSuchApproval why = why
-
--- a run that stopped, where more was to come
-pub stops-more : (setup : Setup) (s : State) (hub : Kept) (h ys rest : List Entry) (e : HubFault) → Stops setup s hub h ys e → Stops setup s hub h (ys ++ rest) e
-stops-more setup s hub h ys rest e stops = record {
-  added = stops.added;
-  left = stops.left ++ rest;
-  whole = ap (λ (all : List Entry). all ++ rest) stops.whole ∙ append_assoc stops.added stops.left rest;
-  adds = stops.adds;
-  why = leaves-more setup.limits.log (h ++ stops.added) stops.left rest e stops.why;
-}
-
--- a run that stopped behind another, where more was to come
-pub stops-joined : (setup : Setup) (s s' : State) (hub hub' : Kept) (h xs ys rest : List Entry) (e : HubFault) → Adds setup s hub h xs → Stops setup s' hub' (h ++ xs) ys e →
-    Stops setup s' hub' h (xs ++ (ys ++ rest)) e
-stops-joined setup s s' hub hub' h xs ys rest e first stops = record {
-  added = xs ++ stops.added;
-  left = stops.left ++ rest;
-  whole =
-      ap (λ (all : List Entry). xs ++ (all ++ rest)) stops.whole ∙ ap (λ (all : List Entry). xs ++ all) (append_assoc stops.added stops.left rest)
-      ∙ sym (append_assoc xs stops.added (stops.left ++ rest));
-  adds = adds-joined setup s s' hub hub' h xs stops.added first stops.adds;
-  why = leaves-more setup.limits.log (h ++ (xs ++ stops.added)) stops.left rest e
-      (subst (λ (g : List Entry). Leaves setup.limits.log g stops.left e) (append_assoc h xs stops.added) stops.why);
-}
 
 -- one release more was categorised
 pub all_more : (setup : Setup) (names : List TaskName) (i : ℕ) (d name : TaskName) (s s' : Standing) (done es whole : List Entry) → i < length names → name ≡ get_or names i d →
@@ -150,3 +96,38 @@ turn-entries setup s mid clock moment puts some at state =
     ap (λ st. entries.Moment moment ∷ entries_trying setup st puts) state
     ∙ ap (λ m. entries.Moment m ∷ entries_trying setup (state_after setup s (entries.Moment m)) puts) at
     ∙ sym (ap (λ t. cond t all []) some)
+
+-- the log was opened where it was broken off, and then came a turn
+pub leads_turn : {T : Type 0} (setup : Setup) (s0 s1 s2 : State) (hub hub' : Kept) (h t : List Entry) (clock : ℕ) (result : Result T HubFault) (broken : Bool) (m : Mended setup broken s1 hub h t) → s0.shelf_faults ≤ s1.shelf_faults → LeavesOnly s0 s1 (Before setup broken h t) →
+    OnOk result ((puts : List Bool) × Turns setup s1 s2 hub' m.kept m.pending (entries_turn setup hub.state clock puts) × RoseBy (misses puts) s1.shelf_faults s2.shelf_faults) →
+    IfErr result (λ e. (puts : List Bool) × TurnStops setup s1 s2 hub' m.kept m.pending (entries_turn setup hub.state clock puts) e × RoseBy (misses puts) s1.shelf_faults s2.shelf_faults) →
+    LeadsTurn setup broken s0 s2 hub' h t hub.state clock result
+leads_turn {T} setup s0 s1 s2 hub hub' h t clock (Ok answer) broken m later first turns stops =
+    let rose = turns.2 in
+    (turns.0, omega (arith, rose, later), leads_through {T = T} setup s0 s1 s2 hub hub' h t (entries_turn setup hub.state clock turns.0) (Ok answer) broken m first turns.1 tt)
+leads_turn {T} setup s0 s1 s2 hub hub' h t clock (Err e) broken m later first turns stops =
+    let rose = stops.2 in
+    (stops.0, omega (arith, rose, later), leads_through {T = T} setup s0 s1 s2 hub hub' h t (entries_turn setup hub.state clock stops.0) (Err e) broken m first tt stops.1)
+
+-- the state behind entries that are pending
+grown_state : (setup : Setup) (broken : Bool) (s s' : State) (hub : Kept) (h t : List Entry) (mid : Standing) (cs : List Entry) → Grows setup broken s s' hub h t mid cs → hub.state ≡ after_entries setup mid cs
+grown_state setup broken s s' hub h t mid cs g =
+    g.ready.state ∙ ap (standing setup) (sym (append_assoc g.kept g.pending cs)) ∙ fold-append (state_after setup) (start setup) (g.kept ++ g.pending) cs
+    ∙ ap (λ (st : Standing). fold (state_after setup) st cs) (sym g.state)
+
+-- All was categorised, and behind it came a turn.
+pub finished : (setup : Setup) (broken : Bool) (s0 s1 s2 : State) (hub hub' : Kept) (h t : List Entry) (mid mid' : Standing) (cs : List Entry) (clock : ℕ) (puts : List Bool) (g : Grows setup broken s0 s1 hub h t mid cs) → mid' ≡ hub.state →
+    Done setup hub.broken s1 s2 hub' g.kept (g.pending ++ cs) mid' (entries_turn setup mid' clock puts) → Done setup broken s0 s2 hub' h t mid (cs ++ entries_turn setup (after_entries setup mid cs) clock puts)
+finished setup broken s0 s1 s2 hub hub' h t mid mid' cs clock puts g is turned =
+    let same : mid' ≡ after_entries setup mid cs = is ∙ grown_state setup broken s0 s1 hub h t mid cs g in
+    let done = subst (λ (b : Bool). Done setup b s1 s2 hub' g.kept (g.pending ++ cs) mid' (entries_turn setup mid' clock puts)) g.ready.whole turned in
+    subst (λ (m : Standing). Done setup broken s0 s2 hub' h t mid (cs ++ entries_turn setup m clock puts)) same (done_behind setup broken s0 s1 s2 hub hub' h t mid mid' cs (entries_turn setup mid' clock puts) g done)
+
+-- The turn failed.
+pub unfinished : (setup : Setup) (broken : Bool) (s0 s1 s2 : State) (hub hub' : Kept) (h t : List Entry) (mid mid' : Standing) (cs : List Entry) (clock : ℕ) (puts : List Bool) (fault : HubFault) (g : Grows setup broken s0 s1 hub h t mid cs) →
+    mid' ≡ hub.state → FailsPartly setup hub.broken s1 s2 hub' g.kept (g.pending ++ cs) mid' (entries_turn setup mid' clock puts) fault → FailsOpened setup broken s0 s2 hub' h t mid (cs ++ entries_turn setup (after_entries setup mid cs) clock puts) fault
+unfinished setup broken s0 s1 s2 hub hub' h t mid mid' cs clock puts fault g is turned =
+    let same : mid' ≡ after_entries setup mid cs = is ∙ grown_state setup broken s0 s1 hub h t mid cs g in
+    let ts = entries_turn setup mid' clock puts in
+    let fails = subst (λ (b : Bool). FailsPartly setup b s1 s2 hub' g.kept (g.pending ++ cs) mid' ts fault) g.ready.whole turned in
+    subst (λ (m : Standing). FailsOpened setup broken s0 s2 hub' h t mid (cs ++ entries_turn setup m clock puts) fault) same (partly_behind setup broken s0 s1 s2 hub hub' h t mid mid' cs ts fault g fails)

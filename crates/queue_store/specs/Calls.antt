@@ -95,6 +95,15 @@ entries_turn setup s clock puts =
     then moment_entry s clock ∷ entries_trying setup (state_after setup s (moment_entry s clock)) puts
     else []
 
+-- The entry tells a delivery.
+abbrev pub IsDelivery : Entry → Type 0
+IsDelivery (entries.Delivered name) = Unit {0}
+IsDelivery (entries.Organised directory rules) = ⊥
+IsDelivery (entries.Accepted moment submission) = ⊥
+IsDelivery (entries.Categorised number release plan) = ⊥
+IsDelivery (entries.Decided name by verdict moment) = ⊥
+IsDelivery (entries.Moment moment) = ⊥
+
 -- how many puts failed
 abbrev pub misses : List Bool → ℕ
 misses puts = count_by not puts

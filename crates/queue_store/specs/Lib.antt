@@ -1,10 +1,11 @@
 pub mod Stands
 pub mod Room
 pub mod Calls
-pub mod Deciding
 pub mod Planning
 pub mod Ready
 pub mod Faults
 pub mod Refusals
-pub mod Office
 pub mod Opening
+pub mod Turning
+pub mod Office
+pub mod Deciding

@@ -1,12 +1,12 @@
 // The hub: the state of its history, kept in step with the log.
-ghost use Rattle.std.specs.Prelude.{◌≡◌, ◌⊎◌, ◌+◌, List, [], ◌∷◌, ◌++◌, true, false, IsTrue, IsOk, IsOkAnd, length, IfOk, IfErr, OnOk, IsErrOf, None};
+ghost use Rattle.std.specs.Prelude.{◌≡◌, ◌≢◌, ◌⊎◌, ◌+◌, List, [], ◌∷◌, ◌++◌, true, false, IsTrue, IsOk, IsOkAnd, length, IfOk, IfErr, OnOk, OnErr, IsErrOf, None};
 ghost use Rattle.port_io.specs.Causes.{Rose};
 ghost use Rattle.mail_plan.specs.declared.entry.Entry.TheVariants as entries;
 ghost use Rattle.mail_plan.specs.declared.entry.Entry.{Entry};
-ghost use Rattle.plant_dev.specs.Disk.{Stays};
+ghost use Rattle.plant_dev.specs.Disk.{Stays, LeavesOnly};
 ghost use Rattle.hub_core.specs.declared.limits.Limits.{Limits};
 ghost use Rattle.hub_core.specs.Setup.{Setup, setup_of, texts_of};
-ghost use Rattle.hub_core.specs.Standing.{is_lawful, state_after, has_room, now_of, place_of_same};
+ghost use Rattle.hub_core.specs.Standing.{Standing, is_lawful, state_after, has_room, now_of, place_of_same};
 ghost use Rattle.mail_plan.specs.Planning.{is_release};
 
 mod deciding;
@@ -25,12 +25,15 @@ use std::marker::Model;
 
 /// The hub over a plant, which is handed to each call.
 ///
-/// After a `DiskFault` the next call first opens the log again.
+/// Calls add their entries to the log, where they are pending: a crash loses all of them or none, until `settle` makes them
+/// durable, all at once. After a `DiskFault` the next call that adds entries first opens the log again: then its `opening` is
+/// another one, and what was pending in the one before may be lost.
 #[derive(Drop)]
 pub struct Hub<T: Planner> {
     state: State<T>,
     log: Log,
     broken: bool,
+    opening: u64,
 }
 
 impl<T: Planner> Model for Hub<T> {
@@ -38,27 +41,38 @@ impl<T: Planner> Model for Hub<T> {
 
     ghost Value = { Kept };
 
-    ghost view = { λ h. record { state = h.state; log = h.log; broken = h.broken } };
+    ghost view = { λ h. record { state = h.state; log = h.log; broken = h.broken; opening = h.opening } };
 }
 
 impl<T: Planner> Hub<T> {
-    ghost use Rattle.queue_store.specs.Ready.{IsReady, Follows, Adds, Declined};
+    ghost use Rattle.queue_store.specs.Stands.{MayStand};
+    ghost use Rattle.queue_store.specs.Ready.{IsReady, HubStands, Mended, Before, Follows, Adds, FailsBy, Fails, IsBroken, Turns, FailsSettling, SettlesRest};
+    ghost use Rattle.queue_store.specs.Turning.{NotOpened, Leads, LeadsSettled};
     ghost use Rattle.queue_store.specs.Calls.{entries_submit, IsAccepted};
     ghost use Rattle.queue_store.specs.Planning.{IsWaiting};
-    ghost use Rattle.queue_store.specs.Refusals.{Refuses};
+    ghost use Rattle.queue_store.specs.Refusals.{RefusedBy};
 
     // Opens the log again where a disk fault broke it off.
     fn mend<P: Plant>(&mut self, alloc: Global, plant: &mut P) -> Result<(), HubFault>
         ensures whole { self.old.broken ≡ false → IsOk result × (self.new ≡ self.old) × (plant.new ≡ plant.old) }
         ensures open { IsOk result → self.new.broken ≡ false }
+        ensures anew { self.old.broken ≡ true → IsOk result → self.new.opening ≢ self.old.opening }
         ensures stays { Stays (P.state plant.old) (P.state plant.new) }
         ensures shelf { IsTrue (P.state plant.old).honest → (P.state plant.new).image.shelf ≡ (P.state plant.old).image.shelf }
         ensures cause { IsErrOf result HubFault.DiskFault → Rose (P.state plant.old).disk_faults (P.state plant.new).disk_faults }
+
+        // The log is open for one of the two that its images stood for, or all is as it was.
+        ensures any_moment { (limits : Limits) (h t : List Entry) → HubStands (setup_of T.means limits) (P.state plant.old) self.old h t →
+            LeavesOnly (P.state plant.old) (P.state plant.new) (Before (setup_of T.means limits) self.old.broken h t) }
+        ensures mended { (limits : Limits) (h t : List Entry) → HubStands (setup_of T.means limits) (P.state plant.old) self.old h t →
+            OnOk result (Mended (setup_of T.means limits) self.old.broken (P.state plant.new) self.new h t) }
+        ensures failed { (limits : Limits) (h t : List Entry) → HubStands (setup_of T.means limits) (P.state plant.old) self.old h t →
+            IfErr result (NotOpened (setup_of T.means limits) self.old.broken (P.state plant.old) (P.state plant.new) self.new h t) }
     {
         if !self.broken {
             return Ok(());
         }
-        let hub = Hub::<T>::open_hub(alloc, plant, self.state.limits())?;
+        let hub = Hub::<T>::open_as(alloc, plant, self.state.limits(), another(self.opening))?;
         *self = hub;
         Ok(())
     }
@@ -71,13 +85,14 @@ impl<T: Planner> Hub<T> {
         entry: Entry,
     ) -> Result<(), HubFault>
         requires { is_lawful (setup_of T.means self.old.state.limits) self.old.state entry ≡ true }
-        ensures adds { (setup : Setup) (h : List Entry) → IsReady setup (P.state plant.old) self.old h → Follows setup h entry (P.state plant.old).image.shelf →
+        ensures adds { (setup : Setup) (h t : List Entry) → IsReady setup (P.state plant.old) self.old h t → Follows setup (P.state plant.old) (h ++ t) entry →
             state_after setup self.old.state entry ≡ state_after (setup_of T.means self.old.state.limits) self.old.state entry →
-            OnOk result (Adds setup (P.state plant.new) self.new h (entry ∷ [])) }
-        ensures declines { (setup : Setup) (h : List Entry) → IsReady setup (P.state plant.old) self.old h →
-            IfErr result (λ e. (e ≡ HubFault.DiskFault) ⊎ Declined setup (P.state plant.new) self.new h (entry ∷ []) e) }
+            OnOk result (Adds setup (P.state plant.old) (P.state plant.new) self.new h t (entry ∷ [])) }
+        ensures fails { (setup : Setup) (h t : List Entry) → IsReady setup (P.state plant.old) self.old h t →
+            IfErr result (Fails setup (P.state plant.old) (P.state plant.new) self.new h t (entry ∷ [])) }
         ensures open { self.old.broken ≡ false → IsOk result → self.new.broken ≡ false }
         ensures shelf { IsTrue (P.state plant.old).honest → (P.state plant.new).image.shelf ≡ (P.state plant.old).image.shelf }
+        ensures opening { self.new.opening ≡ self.old.opening }
         ensures stays { Stays (P.state plant.old) (P.state plant.new) }
         ensures cause { IsErrOf result HubFault.DiskFault → Rose (P.state plant.old).disk_faults (P.state plant.new).disk_faults }
     {
@@ -87,7 +102,7 @@ impl<T: Planner> Hub<T> {
             Err(StepFault::NoMemory) => return Err(HubFault::NoMemory),
             Err(StepFault::NotLawful) => unreachable!(),
         }
-        match self.log.write(plant, &framed) {
+        match self.log.add(plant, &framed) {
             Ok(()) => Ok(()),
             Err(Failed) => {
                 self.broken = true;
@@ -105,12 +120,13 @@ impl<T: Planner> Hub<T> {
     ) -> Result<(), HubFault>
         requires { IsWaiting self.old.state outcome.input (texts_of T.means outcome.org) }
         ensures prescribed { (limits : Limits) → outcome.release ≡ (setup_of T.means limits).release_of (texts_of T.means outcome.org) outcome.input }
-        ensures adds { (limits : Limits) (h : List Entry) → IsReady (setup_of T.means limits) (P.state plant.old) self.old h →
-            OnOk result (Adds (setup_of T.means limits) (P.state plant.new) self.new h (entries.Categorised outcome.input.number outcome.input.release outcome.release ∷ [])) }
-        ensures declines { (limits : Limits) (h : List Entry) → IsReady (setup_of T.means limits) (P.state plant.old) self.old h →
-            IfErr result (λ e. (e ≡ HubFault.DiskFault) ⊎ Declined (setup_of T.means limits) (P.state plant.new) self.new h (entries.Categorised outcome.input.number outcome.input.release outcome.release ∷ []) e) }
+        ensures adds { (limits : Limits) (h t : List Entry) → IsReady (setup_of T.means limits) (P.state plant.old) self.old h t →
+            OnOk result (Adds (setup_of T.means limits) (P.state plant.old) (P.state plant.new) self.new h t (entries.Categorised outcome.input.number outcome.input.release outcome.release ∷ [])) }
+        ensures fails { (limits : Limits) (h t : List Entry) → IsReady (setup_of T.means limits) (P.state plant.old) self.old h t →
+            IfErr result (Fails (setup_of T.means limits) (P.state plant.old) (P.state plant.new) self.new h t (entries.Categorised outcome.input.number outcome.input.release outcome.release ∷ [])) }
         ensures open { self.old.broken ≡ false → IsOk result → self.new.broken ≡ false }
         ensures shelf { IsTrue (P.state plant.old).honest → (P.state plant.new).image.shelf ≡ (P.state plant.old).image.shelf }
+        ensures opening { self.new.opening ≡ self.old.opening }
         ensures stays { Stays (P.state plant.old) (P.state plant.new) }
         ensures cause { IsErrOf result HubFault.DiskFault → Rose (P.state plant.old).disk_faults (P.state plant.new).disk_faults }
     {
@@ -137,13 +153,13 @@ impl<T: Planner> Hub<T> {
         requires repeats_none { place_of_same submission self.old.state.live ≡ None }
         requires room { has_room self.old.state submission ≡ true }
         ensures accepted { IfOk result (λ accepted. accepted ≡ record { number = length self.old.state.live + 1; repeat = false }) }
-        ensures adds { (setup : Setup) (h : List Entry) → IsReady setup (P.state plant.old) self.old h →
-            OnOk result (Adds setup (P.state plant.new) self.new h (entries.Accepted (now_of self.old.state clock) submission ∷ [])) }
-        ensures declines { (setup : Setup) (h : List Entry) → IsReady setup (P.state plant.old) self.old h →
-            IfErr result (λ e. (e ≡ HubFault.DiskFault)
-            ⊎ Declined setup (P.state plant.new) self.new h (entries.Accepted (now_of self.old.state clock) submission ∷ []) e) }
+        ensures adds { (setup : Setup) (h t : List Entry) → IsReady setup (P.state plant.old) self.old h t →
+            OnOk result (Adds setup (P.state plant.old) (P.state plant.new) self.new h t (entries.Accepted (now_of self.old.state clock) submission ∷ [])) }
+        ensures fails { (setup : Setup) (h t : List Entry) → IsReady setup (P.state plant.old) self.old h t →
+            IfErr result (Fails setup (P.state plant.old) (P.state plant.new) self.new h t (entries.Accepted (now_of self.old.state clock) submission ∷ [])) }
         ensures open { self.old.broken ≡ false → IsOk result → self.new.broken ≡ false }
         ensures shelf { IsTrue (P.state plant.old).honest → (P.state plant.new).image.shelf ≡ (P.state plant.old).image.shelf }
+        ensures opening { self.new.opening ≡ self.old.opening }
         ensures stays { Stays (P.state plant.old) (P.state plant.new) }
         ensures cause { IsErrOf result HubFault.DiskFault → Rose (P.state plant.old).disk_faults (P.state plant.new).disk_faults }
     {
@@ -156,28 +172,25 @@ impl<T: Planner> Hub<T> {
         })
     }
 
-    /// Accepts a submission at this clock (seconds since 1970-01-01T00:00:00Z), unless it repeats one.
-    ///
-    /// `QueueFull` comes where the limits leave no room for it, after a repeat is known.
-    pub fn submit<P: Plant>(
+    // Accepts a submission, unless it repeats one, where the log is open.
+    fn submit_open<P: Plant>(
         &mut self,
         alloc: Global,
         plant: &mut P,
         submission: Submission,
         clock: u64,
     ) -> Result<Accepted, HubFault>
-        ensures accepted { self.old.broken ≡ false → IfOk result (IsAccepted self.old.state submission) }
-        ensures adds { (setup : Setup) (h : List Entry) → IsReady setup (P.state plant.old) self.old h →
-            OnOk result (Adds setup (P.state plant.new) self.new h (entries_submit self.old.state clock submission)) }
-        ensures declines { (setup : Setup) (h : List Entry) → IsReady setup (P.state plant.old) self.old h →
-            IfErr result (λ e. (e ≡ HubFault.DiskFault) ⊎ Refuses setup (P.state plant.new) self.new h self.old.state submission clock e) }
-        // A log that a disk fault broke off was opened again.
-        ensures open { IsOk result → self.new.broken ≡ false }
+        ensures accepted { IfOk result (IsAccepted self.old.state submission) }
+        ensures adds { (setup : Setup) (h t : List Entry) → IsReady setup (P.state plant.old) self.old h t →
+            OnOk result (Adds setup (P.state plant.old) (P.state plant.new) self.new h t (entries_submit self.old.state clock submission)) }
+        ensures fails { (setup : Setup) (h t : List Entry) → IsReady setup (P.state plant.old) self.old h t →
+            IfErr result (FailsBy setup (P.state plant.old) (P.state plant.new) self.new h t (RefusedBy setup self.old.state submission clock (h ++ t))) }
+        ensures open { self.old.broken ≡ false → IsOk result → self.new.broken ≡ false }
         ensures shelf { IsTrue (P.state plant.old).honest → (P.state plant.new).image.shelf ≡ (P.state plant.old).image.shelf }
+        ensures opening { self.new.opening ≡ self.old.opening }
         ensures stays { Stays (P.state plant.old) (P.state plant.new) }
         ensures cause { IsErrOf result HubFault.DiskFault → Rose (P.state plant.old).disk_faults (P.state plant.new).disk_faults }
     {
-        self.mend(alloc, plant)?;
         if let Some(number) = self.state.repeat_of(&submission) {
             return Ok(Accepted {
                 number,
@@ -193,16 +206,197 @@ impl<T: Planner> Hub<T> {
         self.accept(alloc, plant, submission, clock)
     }
 
+    /// Accepts a submission at this clock (seconds since 1970-01-01T00:00:00Z), unless it repeats one. Its entry is pending: it is
+    /// told as accepted only once it is settled in the opening that the hub has behind this call.
+    ///
+    /// `QueueFull` comes where the limits leave no room for it, after a repeat is known.
+    pub fn submit<P: Plant>(
+        &mut self,
+        alloc: Global,
+        plant: &mut P,
+        submission: Submission,
+        clock: u64,
+    ) -> Result<Accepted, HubFault>
+        // The state decides that the open log was in, which is the one before unless a fault had broken the log off.
+        ensures adds { (mid : Standing) × (self.old.broken ≡ false → mid ≡ self.old.state) × IfOk result (IsAccepted mid submission)
+            × ((limits : Limits) (h t : List Entry) → HubStands (setup_of T.means limits) (P.state plant.old) self.old h t →
+            Leads (setup_of T.means limits) self.old.broken (P.state plant.old) (P.state plant.new) self.new h t mid (entries_submit mid clock submission)
+            (RefusedBy (setup_of T.means limits) mid submission clock) result) }
+        // A crash at any moment of the call leaves what was settled, or what a fault had left open with it.
+        ensures any_moment { (limits : Limits) (h t : List Entry) → HubStands (setup_of T.means limits) (P.state plant.old) self.old h t →
+            LeavesOnly (P.state plant.old) (P.state plant.new) (MayStand (setup_of T.means limits) h t) }
+        // A log that a disk fault broke off was opened again.
+        ensures open { IsOk result → self.new.broken ≡ false }
+        ensures shelf { IsTrue (P.state plant.old).honest → (P.state plant.new).image.shelf ≡ (P.state plant.old).image.shelf }
+        ensures opening { self.old.broken ≡ false → self.new.opening ≡ self.old.opening }
+        ensures stays { Stays (P.state plant.old) (P.state plant.new) }
+        ensures cause { IsErrOf result HubFault.DiskFault → Rose (P.state plant.old).disk_faults (P.state plant.new).disk_faults }
+    {
+        match self.mend(alloc, plant) {
+            Err(fault) => Err(fault),
+            Ok(()) => self.submit_open(alloc, plant, submission, clock),
+        }
+    }
+
+    // Accepts a submission and settles it, where the log is open.
+    fn submit_durable<P: Plant>(
+        &mut self,
+        alloc: Global,
+        plant: &mut P,
+        submission: Submission,
+        clock: u64,
+    ) -> Result<Accepted, HubFault>
+        ensures accepted { IfOk result (IsAccepted self.old.state submission) }
+        ensures adds { (setup : Setup) (h t : List Entry) → IsReady setup (P.state plant.old) self.old h t →
+            OnOk result (Turns setup (P.state plant.old) (P.state plant.new) self.new h t (entries_submit self.old.state clock submission)) }
+        ensures fails { (setup : Setup) (h t : List Entry) → IsReady setup (P.state plant.old) self.old h t →
+            IfErr result (FailsSettling setup (P.state plant.old) (P.state plant.new) self.new h t (entries_submit self.old.state clock submission) (RefusedBy setup self.old.state submission clock (h ++ t))) }
+        ensures open { self.old.broken ≡ false → IsOk result → self.new.broken ≡ false }
+        ensures shelf { IsTrue (P.state plant.old).honest → (P.state plant.new).image.shelf ≡ (P.state plant.old).image.shelf }
+        ensures opening { self.new.opening ≡ self.old.opening }
+        ensures stays { Stays (P.state plant.old) (P.state plant.new) }
+        ensures cause { IsErrOf result HubFault.DiskFault → Rose (P.state plant.old).disk_faults (P.state plant.new).disk_faults }
+    {
+        match self.submit_open(alloc, plant, submission, clock) {
+            Err(fault) => Err(fault),
+            Ok(accepted) => match self.settle_open(plant) {
+                Ok(()) => Ok(accepted),
+                Err(fault) => Err(fault),
+            },
+        }
+    }
+
+    /// Accepts a submission at this clock, unless it repeats one, and settles it with all that is pending: what is answered is
+    /// durable.
+    pub fn submit_settled<P: Plant>(
+        &mut self,
+        alloc: Global,
+        plant: &mut P,
+        submission: Submission,
+        clock: u64,
+    ) -> Result<Accepted, HubFault>
+        ensures settled { (mid : Standing) × (self.old.broken ≡ false → mid ≡ self.old.state) × IfOk result (IsAccepted mid submission)
+            × ((limits : Limits) (h t : List Entry) → HubStands (setup_of T.means limits) (P.state plant.old) self.old h t →
+            LeadsSettled (setup_of T.means limits) self.old.broken (P.state plant.old) (P.state plant.new) self.new h t mid (entries_submit mid clock submission)
+            (RefusedBy (setup_of T.means limits) mid submission clock) result) }
+        ensures open { IsOk result → self.new.broken ≡ false }
+        ensures shelf { IsTrue (P.state plant.old).honest → (P.state plant.new).image.shelf ≡ (P.state plant.old).image.shelf }
+        ensures opening { self.old.broken ≡ false → self.new.opening ≡ self.old.opening }
+        ensures stays { Stays (P.state plant.old) (P.state plant.new) }
+        ensures cause { IsErrOf result HubFault.DiskFault → Rose (P.state plant.old).disk_faults (P.state plant.new).disk_faults }
+    {
+        match self.mend(alloc, plant) {
+            Err(fault) => Err(fault),
+            Ok(()) => self.submit_durable(alloc, plant, submission, clock),
+        }
+    }
+
+    // Settles all that is pending, where the log is open.
+    fn settle_open<P: Plant>(&mut self, plant: &mut P) -> Result<(), HubFault>
+        ensures settles { (setup : Setup) (h t : List Entry) → IsReady setup (P.state plant.old) self.old h t →
+            OnOk result (IsReady setup (P.state plant.new) self.new (h ++ t) []) }
+        ensures failed { (setup : Setup) (h t : List Entry) → IsReady setup (P.state plant.old) self.old h t →
+            OnErr result (IsBroken setup (P.state plant.new) self.new h t) }
+        ensures any_moment { (setup : Setup) (h t : List Entry) → IsReady setup (P.state plant.old) self.old h t →
+            LeavesOnly (P.state plant.old) (P.state plant.new) (MayStand setup h t) }
+        ensures state { self.new.state ≡ self.old.state }
+        ensures open { self.old.broken ≡ false → IsOk result → self.new.broken ≡ false }
+        ensures disk { IfErr result (λ e. e ≡ HubFault.DiskFault) }
+        ensures shelf { IsTrue (P.state plant.old).honest → (P.state plant.new).image.shelf ≡ (P.state plant.old).image.shelf }
+        ensures opening { self.new.opening ≡ self.old.opening }
+        ensures stays { Stays (P.state plant.old) (P.state plant.new) }
+        ensures cause { IsErrOf result HubFault.DiskFault → Rose (P.state plant.old).disk_faults (P.state plant.new).disk_faults }
+    {
+        match self.log.settle(plant) {
+            Ok(()) => Ok(()),
+            Err(Failed) => {
+                self.broken = true;
+                Err(HubFault::DiskFault)
+            }
+        }
+    }
+
+    // Settles what is pending where a call stopped with a fault, and gives the fault to answer.
+    fn settle_rest<P: Plant>(&mut self, plant: &mut P, fault: HubFault) -> HubFault
+        ensures broken { self.old.broken ≡ true → (result ≡ fault) × (self.new ≡ self.old) × (plant.new ≡ plant.old) }
+        ensures settles { (setup : Setup) (h t : List Entry) → IsReady setup (P.state plant.old) self.old h t →
+            SettlesRest setup (P.state plant.new) self.new h t fault result }
+        ensures any_moment { (setup : Setup) (h t : List Entry) → IsReady setup (P.state plant.old) self.old h t →
+            LeavesOnly (P.state plant.old) (P.state plant.new) (MayStand setup h t) }
+        ensures opening { self.new.opening ≡ self.old.opening }
+        ensures stays { Stays (P.state plant.old) (P.state plant.new) }
+        ensures cause { result ≡ HubFault.DiskFault → (fault ≡ HubFault.DiskFault) ⊎ Rose (P.state plant.old).disk_faults (P.state plant.new).disk_faults }
+    {
+        if self.broken {
+            return fault;
+        }
+        match self.settle_open(plant) {
+            Ok(()) => fault,
+            Err(disk) => disk,
+        }
+    }
+
+    /// Which opening of the log this is. It is another one once the log was opened again after a disk fault.
+    pub fn opening(&self) -> u64
+        ensures { result ≡ self.now.opening }
+    {
+        self.opening
+    }
+
+    /// Settles all that is pending in this opening of the log, by two syncs, or none where nothing is pending: no crash loses it
+    /// from then on.
+    ///
+    /// After `DiskFault` all of it stands or nothing does. Where a fault broke the log off before, or it is open in another
+    /// opening by now, nothing is done and what was pending in this one is told so.
+    pub fn settle<P: Plant>(&mut self, plant: &mut P, opening: u64) -> Result<(), HubFault>
+        ensures settles { (setup : Setup) (h t : List Entry) → HubStands setup (P.state plant.old) self.old h t →
+            OnOk result (IsReady setup (P.state plant.new) self.new (h ++ t) []) }
+        ensures failed { (setup : Setup) (h t : List Entry) → self.old.opening ≡ opening → HubStands setup (P.state plant.old) self.old h t →
+            OnErr result (IsBroken setup (P.state plant.new) self.new h t) }
+        ensures same { IsOk result → self.old.opening ≡ opening }
+        ensures other { self.old.opening ≢ opening → (self.new ≡ self.old) × (plant.new ≡ plant.old) }
+        ensures any_moment { (setup : Setup) (h t : List Entry) → HubStands setup (P.state plant.old) self.old h t →
+            LeavesOnly (P.state plant.old) (P.state plant.new) (MayStand setup h t) }
+        ensures state { (self.new.state ≡ self.old.state) × (self.new.opening ≡ self.old.opening) }
+        ensures open { IsOk result → self.new.broken ≡ false }
+        ensures disk { IfErr result (λ e. e ≡ HubFault.DiskFault) }
+        ensures shelf { IsTrue (P.state plant.old).honest → (P.state plant.new).image.shelf ≡ (P.state plant.old).image.shelf }
+        ensures stays { Stays (P.state plant.old) (P.state plant.new) }
+        ensures cause { self.old.broken ≡ false → self.old.opening ≡ opening → IsErrOf result HubFault.DiskFault → Rose (P.state plant.old).disk_faults (P.state plant.new).disk_faults }
+    {
+        if self.broken || self.opening != opening {
+            return Err(HubFault::DiskFault);
+        }
+        self.settle_open(plant)
+    }
+
     /// The number that the next new submission gets.
     pub fn next_number<P: Plant>(&mut self, alloc: Global, plant: &mut P) -> Result<u64, HubFault>
         ensures open { IsOk result → self.new.broken ≡ false }
-        ensures number { self.old.broken ≡ false → IsOkAnd result (λ number. number ≡ length self.old.state.live + 1) }
-        ensures kept { (setup : Setup) (h : List Entry) → IsReady setup (P.state plant.old) self.old h → IsReady setup (P.state plant.new) self.new h }
+        ensures number { IfOk result (λ number. number ≡ length self.new.state.live + 1) }
+        // The log is open behind it. It fails only where a disk fault had broken it off and it can't be opened again.
+        ensures opened { (limits : Limits) (h t : List Entry) → HubStands (setup_of T.means limits) (P.state plant.old) self.old h t →
+            OnOk result (Mended (setup_of T.means limits) self.old.broken (P.state plant.new) self.new h t) }
+        ensures failed { (limits : Limits) (h t : List Entry) → HubStands (setup_of T.means limits) (P.state plant.old) self.old h t →
+            IfErr result (NotOpened (setup_of T.means limits) self.old.broken (P.state plant.old) (P.state plant.new) self.new h t) }
+        ensures any_moment { (limits : Limits) (h t : List Entry) → HubStands (setup_of T.means limits) (P.state plant.old) self.old h t →
+            LeavesOnly (P.state plant.old) (P.state plant.new) (MayStand (setup_of T.means limits) h t) }
+        ensures opening { self.old.broken ≡ false → self.new.opening ≡ self.old.opening }
         ensures stays { Stays (P.state plant.old) (P.state plant.new) }
         ensures cause { IsErrOf result HubFault.DiskFault → Rose (P.state plant.old).disk_faults (P.state plant.new).disk_faults }
     {
         self.mend(alloc, plant)?;
         Ok(self.state.next_number())
+    }
+}
+
+// The number of another opening. They go round after 2^64 of them.
+fn another(opening: u64) -> u64
+    ensures { result ≢ opening }
+{
+    match opening {
+        u64::MAX => 0,
+        opening => opening + 1,
     }
 }
 

@@ -7,7 +7,7 @@ use mail_plan::{Accepted, Intake, IntakeFault, Planner, Submission};
 use plant_dev::Plant;
 use std::alloc::Global;
 
-/// A hub and its plant as an intake.
+/// A hub and its plant as an intake. What it answers is settled.
 #[derive(Drop)]
 pub struct LocalOffice<'a, P: Plant, T: Planner> {
     pub alloc: Global,
@@ -32,16 +32,20 @@ fn intake_fault(fault: HubFault) -> IntakeFault
 }
 
 impl<P: Plant, T: Planner> Intake for LocalOffice<'_, P, T> {
+    ghost use Rattle.hub_core.specs.Setup.{setup_of};
     ghost use Rattle.queue_store.specs.Office.{Does};
     ghost use Rattle.std.specs.Prelude.{◌≡◌};
 
     ghost disk_faults = { λ o. (P.state o.plant.now).disk_faults };
 
     ghost gives = { λ a step b. (b.hub.ghost_name ≡ a.hub.ghost_name) × (b.plant.ghost_name ≡ a.plant.ghost_name)
-        × Does (P.state a.plant.now) a.hub.now step (P.state b.plant.now) b.hub.now };
+        × Does (setup_of T.means) (P.state a.plant.now) a.hub.now step (P.state b.plant.now) b.hub.now };
 
     fn submit(&mut self, submission: Submission, clock: u64) -> Result<Accepted, IntakeFault> {
-        match self.hub.submit(self.alloc, self.plant, submission, clock) {
+        match self
+            .hub
+            .submit_settled(self.alloc, self.plant, submission, clock)
+        {
             Ok(accepted) => Ok(accepted),
             Err(fault) => Err(intake_fault(fault)),
         }

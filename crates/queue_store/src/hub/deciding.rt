@@ -1,14 +1,16 @@
 // Decisions on approvals.
-ghost use Rattle.std.specs.Prelude.{◌≡◌, ◌⊎◌, List, [], ◌∷◌, true, false, Some, IsTrue, IsOk, IfOk, IfErr, OnOk, IsErrOf};
+ghost use Rattle.std.specs.Prelude.{◌≡◌, ◌⊎◌, List, [], ◌∷◌, ◌++◌, true, false, Some, IsTrue, IsOk, IfOk, IfErr, OnOk, IsErrOf};
 ghost use Rattle.port_io.specs.Causes.{Rose};
 ghost use Rattle.mail_plan.specs.declared.entry.Entry.{Entry};
 ghost use Rattle.mail_plan.specs.declared.entry.Entry.TheVariants as entries;
-ghost use Rattle.plant_dev.specs.Disk.{Stays};
+ghost use Rattle.plant_dev.specs.Disk.{Stays, LeavesOnly};
 ghost use Rattle.hub_core.specs.declared.limits.Limits.{Limits};
 ghost use Rattle.hub_core.specs.Setup.{setup_of};
 ghost use Rattle.hub_core.specs.Mail.{is_taken};
-ghost use Rattle.hub_core.specs.Standing.{now_of, decision_of};
-ghost use Rattle.queue_store.specs.Ready.{IsReady, Adds, Declined};
+ghost use Rattle.hub_core.specs.Standing.{Standing, now_of, decision_of};
+ghost use Rattle.queue_store.specs.Stands.{MayStand};
+ghost use Rattle.queue_store.specs.Ready.{IsReady, HubStands, Adds, Fails, FailsBy};
+ghost use Rattle.queue_store.specs.Turning.{Leads};
 ghost use Rattle.queue_store.specs.Calls.{entries_decide};
 ghost use Rattle.queue_store.specs.Deciding.{IsDecision, IsDecisionReply, AnswersDecision};
 
@@ -22,7 +24,7 @@ use plant_dev::Plant;
 use std::alloc::Global;
 
 impl<T: Planner> Hub<T> {
-    ghost use Rattle.queue_store.specs.Deciding.{RefusesDecision};
+    ghost use Rattle.queue_store.specs.Deciding.{RefusedDecision};
 
     // Decides on an approval, where the log is open.
     fn decide_open<P: Plant>(
@@ -35,13 +37,13 @@ impl<T: Planner> Hub<T> {
         clock: u64,
     ) -> Result<Decision, HubFault>
         ensures decision { IfOk result (IsDecision self.old.state approval.now by.now verdict clock) }
-        ensures adds { (limits : Limits) (h : List Entry) → IsReady (setup_of T.means limits) (P.state plant.old) self.old h →
-            OnOk result (Adds (setup_of T.means limits) (P.state plant.new) self.new h (entries_decide self.old.state approval.now by.now verdict clock)) }
-        ensures declines { (limits : Limits) (h : List Entry) → IsReady (setup_of T.means limits) (P.state plant.old) self.old h →
-            IfErr result (λ e. (e ≡ HubFault.DiskFault)
-            ⊎ RefusesDecision (setup_of T.means limits) (P.state plant.new) self.new h self.old.state approval.now by.now verdict clock e) }
+        ensures adds { (limits : Limits) (h t : List Entry) → IsReady (setup_of T.means limits) (P.state plant.old) self.old h t →
+            OnOk result (Adds (setup_of T.means limits) (P.state plant.old) (P.state plant.new) self.new h t (entries_decide self.old.state approval.now by.now verdict clock)) }
+        ensures fails { (limits : Limits) (h t : List Entry) → IsReady (setup_of T.means limits) (P.state plant.old) self.old h t →
+            IfErr result (FailsBy (setup_of T.means limits) (P.state plant.old) (P.state plant.new) self.new h t (RefusedDecision (setup_of T.means limits) self.old.state approval.now by.now verdict clock (h ++ t))) }
         ensures open { self.old.broken ≡ false → IsOk result → self.new.broken ≡ false }
         ensures shelf { IsTrue (P.state plant.old).honest → (P.state plant.new).image.shelf ≡ (P.state plant.old).image.shelf }
+        ensures opening { self.new.opening ≡ self.old.opening }
         ensures stays { Stays (P.state plant.old) (P.state plant.new) }
         ensures cause { IsErrOf result HubFault.DiskFault → Rose (P.state plant.old).disk_faults (P.state plant.new).disk_faults }
     {
@@ -70,12 +72,13 @@ impl<T: Planner> Hub<T> {
         clock: u64,
     ) -> Result<(), HubFault>
         requires { is_taken (decision_of self.old.state approval.now by.now verdict (now_of self.old.state clock)) ≡ true }
-        ensures adds { (limits : Limits) (h : List Entry) → IsReady (setup_of T.means limits) (P.state plant.old) self.old h →
-            OnOk result (Adds (setup_of T.means limits) (P.state plant.new) self.new h (entries.Decided approval.now by.now verdict (now_of self.old.state clock) ∷ [])) }
-        ensures declines { (limits : Limits) (h : List Entry) → IsReady (setup_of T.means limits) (P.state plant.old) self.old h →
-            IfErr result (λ e. (e ≡ HubFault.DiskFault) ⊎ Declined (setup_of T.means limits) (P.state plant.new) self.new h (entries.Decided approval.now by.now verdict (now_of self.old.state clock) ∷ []) e) }
+        ensures adds { (limits : Limits) (h t : List Entry) → IsReady (setup_of T.means limits) (P.state plant.old) self.old h t →
+            OnOk result (Adds (setup_of T.means limits) (P.state plant.old) (P.state plant.new) self.new h t (entries.Decided approval.now by.now verdict (now_of self.old.state clock) ∷ [])) }
+        ensures fails { (limits : Limits) (h t : List Entry) → IsReady (setup_of T.means limits) (P.state plant.old) self.old h t →
+            IfErr result (Fails (setup_of T.means limits) (P.state plant.old) (P.state plant.new) self.new h t (entries.Decided approval.now by.now verdict (now_of self.old.state clock) ∷ [])) }
         ensures open { self.old.broken ≡ false → IsOk result → self.new.broken ≡ false }
         ensures shelf { IsTrue (P.state plant.old).honest → (P.state plant.new).image.shelf ≡ (P.state plant.old).image.shelf }
+        ensures opening { self.new.opening ≡ self.old.opening }
         ensures stays { Stays (P.state plant.old) (P.state plant.new) }
         ensures cause { IsErrOf result HubFault.DiskFault → Rose (P.state plant.old).disk_faults (P.state plant.new).disk_faults }
     {
@@ -106,19 +109,22 @@ impl<T: Planner> Hub<T> {
         verdict: Verdict,
         clock: u64,
     ) -> Result<Decision, HubFault>
-        ensures decision { self.old.broken ≡ false → IfOk result (IsDecision self.old.state approval.now by.now verdict clock) }
-        ensures adds { (limits : Limits) (h : List Entry) → IsReady (setup_of T.means limits) (P.state plant.old) self.old h →
-            OnOk result (Adds (setup_of T.means limits) (P.state plant.new) self.new h (entries_decide self.old.state approval.now by.now verdict clock)) }
-        ensures declines { (limits : Limits) (h : List Entry) → IsReady (setup_of T.means limits) (P.state plant.old) self.old h →
-            IfErr result (λ e. (e ≡ HubFault.DiskFault)
-            ⊎ RefusesDecision (setup_of T.means limits) (P.state plant.new) self.new h self.old.state approval.now by.now verdict clock e) }
+        ensures adds { (mid : Standing) × (self.old.broken ≡ false → mid ≡ self.old.state) × IfOk result (IsDecision mid approval.now by.now verdict clock)
+            × ((limits : Limits) (h t : List Entry) → HubStands (setup_of T.means limits) (P.state plant.old) self.old h t →
+            Leads (setup_of T.means limits) self.old.broken (P.state plant.old) (P.state plant.new) self.new h t mid (entries_decide mid approval.now by.now verdict clock)
+            (RefusedDecision (setup_of T.means limits) mid approval.now by.now verdict clock) result) }
+        ensures any_moment { (limits : Limits) (h t : List Entry) → HubStands (setup_of T.means limits) (P.state plant.old) self.old h t →
+            LeavesOnly (P.state plant.old) (P.state plant.new) (MayStand (setup_of T.means limits) h t) }
         ensures open { IsOk result → self.new.broken ≡ false }
         ensures shelf { IsTrue (P.state plant.old).honest → (P.state plant.new).image.shelf ≡ (P.state plant.old).image.shelf }
+        ensures opening { self.old.broken ≡ false → self.new.opening ≡ self.old.opening }
         ensures stays { Stays (P.state plant.old) (P.state plant.new) }
         ensures cause { IsErrOf result HubFault.DiskFault → Rose (P.state plant.old).disk_faults (P.state plant.new).disk_faults }
     {
-        self.mend(alloc, plant)?;
-        self.decide_open(alloc, plant, approval, by, verdict, clock)
+        match self.mend(alloc, plant) {
+            Err(fault) => Err(fault),
+            Ok(()) => self.decide_open(alloc, plant, approval, by, verdict, clock),
+        }
     }
 }
 

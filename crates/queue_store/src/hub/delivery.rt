@@ -1,14 +1,17 @@
 // Categorising what was accepted, and turns in which what waits is tried.
-ghost use Rattle.std.specs.Prelude.{◌≡◌, ◌⊎◌, ◌||◌, nat_lt, length, List, ◌++◌, false, Bool, IsTrue, IfOk, IfErr, OnOk, IsErrOf, Ok, true};
+ghost use Rattle.std.specs.Prelude.{◌≡◌, ◌≤◌, ◌⊎◌, ◌||◌, nat_lt, length, List, [], ◌∷◌, ◌++◌, false, Bool, IsTrue, IfOk, IfErr, OnOk, IsErrOf, Ok, true};
 ghost use Rattle.port_io.specs.Causes.{Rose, RoseBy};
 ghost use Rattle.mail_plan.specs.declared.entry.Entry.{Entry};
-ghost use Rattle.plant_dev.specs.Disk.{Stays};
-ghost use Rattle.plant_dev.specs.Shelf.{Has};
+ghost use Rattle.plant_dev.specs.Disk.{Stays, LeavesOnly};
 ghost use Rattle.hub_core.specs.Items.{items, Among};
 ghost use Rattle.hub_core.specs.declared.limits.Limits.{Limits};
 ghost use Rattle.hub_core.specs.Setup.{Setup, setup_of};
-ghost use Rattle.hub_core.specs.Standing.{any_pends};
-ghost use Rattle.queue_store.specs.Ready.{Kept, IsReady, Adds, Declined, Stops};
+ghost use Rattle.hub_core.specs.Standing.{Standing, any_pends};
+ghost use Rattle.std.specs.List.{AllByRecursion};
+ghost use Rattle.mail_plan.specs.declared.entry.Entry.TheVariants as entries;
+ghost use Rattle.queue_store.specs.Stands.{Stands};
+ghost use Rattle.queue_store.specs.Ready.{Kept, IsReady, HubStands, Adds, Fails, FailsLater, Turns, TurnStops, EachHas};
+ghost use Rattle.queue_store.specs.Turning.{LeadsOn, LeadsTurn};
 
 use super::Hub;
 use crate::HubFault;
@@ -19,7 +22,7 @@ use plant_dev::{Plant, ShelfFault};
 use std::alloc::Global;
 
 impl<T: Planner> Hub<T> {
-    ghost use Rattle.queue_store.specs.Calls.{entries_at, entries_all, entries_categorise, entries_try, entries_tries, entries_trying, entries_turn, misses};
+    ghost use Rattle.queue_store.specs.Calls.{after_entries, entries_at, entries_all, entries_categorise, entries_try, entries_tries, entries_trying, entries_turn, misses, IsDelivery};
 
     // Categorises a release, where it waits.
     fn categorise<P: Plant>(
@@ -28,10 +31,11 @@ impl<T: Planner> Hub<T> {
         plant: &mut P,
         name: &TaskName,
     ) -> Result<(), HubFault>
-        ensures adds { (limits : Limits) (h : List Entry) → IsReady (setup_of T.means limits) (P.state plant.old) self.old h →
-            OnOk result (Adds (setup_of T.means limits) (P.state plant.new) self.new h (entries_at (setup_of T.means limits) self.old.state name.now)) }
-        ensures declines { (limits : Limits) (h : List Entry) → IsReady (setup_of T.means limits) (P.state plant.old) self.old h →
-            IfErr result (λ e. (e ≡ HubFault.DiskFault) ⊎ Declined (setup_of T.means limits) (P.state plant.new) self.new h (entries_at (setup_of T.means limits) self.old.state name.now) e) }
+        ensures adds { (limits : Limits) (h t : List Entry) → IsReady (setup_of T.means limits) (P.state plant.old) self.old h t →
+            OnOk result (Adds (setup_of T.means limits) (P.state plant.old) (P.state plant.new) self.new h t (entries_at (setup_of T.means limits) self.old.state name.now)) }
+        ensures fails { (limits : Limits) (h t : List Entry) → IsReady (setup_of T.means limits) (P.state plant.old) self.old h t →
+            IfErr result (Fails (setup_of T.means limits) (P.state plant.old) (P.state plant.new) self.new h t (entries_at (setup_of T.means limits) self.old.state name.now)) }
+        ensures opening { self.new.opening ≡ self.old.opening }
         ensures stays { Stays (P.state plant.old) (P.state plant.new) }
         ensures cause { IsErrOf result HubFault.DiskFault → Rose (P.state plant.old).disk_faults (P.state plant.new).disk_faults }
     {
@@ -52,11 +56,13 @@ impl<T: Planner> Hub<T> {
         plant: &mut P,
         name: ItemName,
     ) -> Result<bool, HubFault>
-        ensures adds { (setup : Setup) (h : List Entry) → IsReady setup (P.state plant.old) self.old h →
-            IfOk result (λ put. Adds setup (P.state plant.new) self.new h (entries_try self.old.state name put)) }
-        ensures declines { (setup : Setup) (h : List Entry) → IsReady setup (P.state plant.old) self.old h →
-            IfErr result (λ e. (e ≡ HubFault.DiskFault) ⊎ Declined setup (P.state plant.new) self.new h (entries_try self.old.state name true) e) }
+        // An item is put only where nothing but deliveries is pending, so that its release is settled.
+        ensures adds { (setup : Setup) (h t : List Entry) → AllByRecursion IsDelivery t → IsReady setup (P.state plant.old) self.old h t →
+            IfOk result (λ put. Adds setup (P.state plant.old) (P.state plant.new) self.new h t (entries_try self.old.state name put)) }
+        ensures fails { (setup : Setup) (h t : List Entry) → AllByRecursion IsDelivery t → IsReady setup (P.state plant.old) self.old h t →
+            IfErr result (Fails setup (P.state plant.old) (P.state plant.new) self.new h t (entries_try self.old.state name true)) }
         ensures missed { result ≡ Ok false → Rose (P.state plant.old).shelf_faults (P.state plant.new).shelf_faults }
+        ensures opening { self.new.opening ≡ self.old.opening }
         ensures stays { Stays (P.state plant.old) (P.state plant.new) }
         ensures cause { IsErrOf result HubFault.DiskFault → Rose (P.state plant.old).disk_faults (P.state plant.new).disk_faults }
     {
@@ -80,10 +86,11 @@ impl<T: Planner> Hub<T> {
         plant: &mut P,
         names: &[TaskName],
     ) -> Result<(), HubFault>
-        ensures adds { (limits : Limits) (h : List Entry) → IsReady (setup_of T.means limits) (P.state plant.old) self.old h →
-            OnOk result (Adds (setup_of T.means limits) (P.state plant.new) self.new h (entries_all (setup_of T.means limits) self.old.state names.now)) }
-        ensures stops { (limits : Limits) (h : List Entry) → IsReady (setup_of T.means limits) (P.state plant.old) self.old h →
-            IfErr result (λ e. (e ≡ HubFault.DiskFault) ⊎ Stops (setup_of T.means limits) (P.state plant.new) self.new h (entries_all (setup_of T.means limits) self.old.state names.now) e) }
+        ensures adds { (limits : Limits) (h t : List Entry) → IsReady (setup_of T.means limits) (P.state plant.old) self.old h t →
+            OnOk result (Adds (setup_of T.means limits) (P.state plant.old) (P.state plant.new) self.new h t (entries_all (setup_of T.means limits) self.old.state names.now)) }
+        ensures stops { (limits : Limits) (h t : List Entry) → IsReady (setup_of T.means limits) (P.state plant.old) self.old h t →
+            IfErr result (FailsLater (setup_of T.means limits) (P.state plant.old) (P.state plant.new) self.new h t (entries_all (setup_of T.means limits) self.old.state names.now)) }
+        ensures opening { self.new.opening ≡ self.old.opening }
         ensures stays { Stays (P.state plant.old) (P.state plant.new) }
         ensures cause { IsErrOf result HubFault.DiskFault → Rose (P.state plant.old).disk_faults (P.state plant.new).disk_faults }
     {
@@ -96,21 +103,53 @@ impl<T: Planner> Hub<T> {
         Ok(())
     }
 
-    /// Categorises each release that waits, by submission and release.
-    pub fn categorise_all<P: Plant>(&mut self, alloc: Global, plant: &mut P) -> Result<(), HubFault>
-        ensures adds { (limits : Limits) (h : List Entry) → IsReady (setup_of T.means limits) (P.state plant.old) self.old h →
-            OnOk result (Adds (setup_of T.means limits) (P.state plant.new) self.new h (entries_categorise (setup_of T.means limits) self.old.state)) }
-        ensures stops { (limits : Limits) (h : List Entry) → IsReady (setup_of T.means limits) (P.state plant.old) self.old h →
-            IfErr result (λ e. (e ≡ HubFault.DiskFault) ⊎ Stops (setup_of T.means limits) (P.state plant.new) self.new h (entries_categorise (setup_of T.means limits) self.old.state) e) }
+    // Categorises each release that waits, in order.
+    fn categorise_waiting<P: Plant>(&mut self, alloc: Global, plant: &mut P) -> Result<(), HubFault>
+        ensures adds { (limits : Limits) (h t : List Entry) → IsReady (setup_of T.means limits) (P.state plant.old) self.old h t →
+            OnOk result (Adds (setup_of T.means limits) (P.state plant.old) (P.state plant.new) self.new h t (entries_categorise (setup_of T.means limits) self.old.state)) }
+        ensures stops { (limits : Limits) (h t : List Entry) → IsReady (setup_of T.means limits) (P.state plant.old) self.old h t →
+            IfErr result (FailsLater (setup_of T.means limits) (P.state plant.old) (P.state plant.new) self.new h t (entries_categorise (setup_of T.means limits) self.old.state)) }
+        ensures opening { self.new.opening ≡ self.old.opening }
         ensures stays { Stays (P.state plant.old) (P.state plant.new) }
         ensures cause { IsErrOf result HubFault.DiskFault → Rose (P.state plant.old).disk_faults (P.state plant.new).disk_faults }
     {
-        self.mend(alloc, plant)?;
         let names = match self.state.uncategorised(alloc) {
             Ok(names) => names,
             Err(NoMemory) => return Err(HubFault::NoMemory),
         };
         self.categorise_each(alloc, plant, &names)
+    }
+
+    // Categorises each release that waits, where the log is open. Where it stops among them, those before are settled.
+    fn categorise_open<P: Plant>(&mut self, alloc: Global, plant: &mut P) -> Result<(), HubFault>
+        ensures adds { (limits : Limits) (h t : List Entry) → IsReady (setup_of T.means limits) (P.state plant.old) self.old h t →
+            OnOk result (Adds (setup_of T.means limits) (P.state plant.old) (P.state plant.new) self.new h t (entries_categorise (setup_of T.means limits) self.old.state)) }
+        ensures stops { (limits : Limits) (h t : List Entry) → IsReady (setup_of T.means limits) (P.state plant.old) self.old h t →
+            IfErr result (TurnStops (setup_of T.means limits) (P.state plant.old) (P.state plant.new) self.new h t (entries_categorise (setup_of T.means limits) self.old.state)) }
+        ensures opening { self.new.opening ≡ self.old.opening }
+        ensures stays { Stays (P.state plant.old) (P.state plant.new) }
+        ensures cause { IsErrOf result HubFault.DiskFault → Rose (P.state plant.old).disk_faults (P.state plant.new).disk_faults }
+    {
+        match self.categorise_waiting(alloc, plant) {
+            Ok(()) => Ok(()),
+            Err(fault) => Err(self.settle_rest(plant, fault)),
+        }
+    }
+
+    /// Categorises each release that waits, by submission and release. The releases are pending; where the log's room or memory
+    /// ends among them, those before are settled.
+    pub fn categorise_all<P: Plant>(&mut self, alloc: Global, plant: &mut P) -> Result<(), HubFault>
+        ensures adds { (mid : Standing) × (self.old.broken ≡ false → mid ≡ self.old.state)
+            × ((limits : Limits) (h t : List Entry) → HubStands (setup_of T.means limits) (P.state plant.old) self.old h t →
+            LeadsOn (setup_of T.means limits) self.old.broken (P.state plant.old) (P.state plant.new) self.new h t mid (entries_categorise (setup_of T.means limits) mid) result) }
+        ensures opening { self.old.broken ≡ false → self.new.opening ≡ self.old.opening }
+        ensures stays { Stays (P.state plant.old) (P.state plant.new) }
+        ensures cause { IsErrOf result HubFault.DiskFault → Rose (P.state plant.old).disk_faults (P.state plant.new).disk_faults }
+    {
+        match self.mend(alloc, plant) {
+            Err(fault) => Err(fault),
+            Ok(()) => self.categorise_open(alloc, plant),
+        }
     }
 
     // Tries each of these items once, in order.
@@ -120,13 +159,14 @@ impl<T: Planner> Hub<T> {
         plant: &mut P,
         names: &[ItemName],
     ) -> Result<(), HubFault>
-        ensures adds { (setup : Setup) (h : List Entry) → IsReady setup (P.state plant.old) self.old h → OnOk result ((puts : List Bool)
-            × Adds setup (P.state plant.new) self.new h (entries_tries setup self.old.state names.now puts)
+        ensures adds { (setup : Setup) (h t : List Entry) → AllByRecursion IsDelivery t → IsReady setup (P.state plant.old) self.old h t → OnOk result ((puts : List Bool)
+            × Adds setup (P.state plant.old) (P.state plant.new) self.new h t (entries_tries setup self.old.state names.now puts)
             × RoseBy (misses puts) (P.state plant.old).shelf_faults (P.state plant.new).shelf_faults) }
-        ensures stops { (setup : Setup) (h : List Entry) → IsReady setup (P.state plant.old) self.old h →
-            IfErr result (λ e. (e ≡ HubFault.DiskFault) ⊎ ((puts : List Bool)
-            × Stops setup (P.state plant.new) self.new h (entries_tries setup self.old.state names.now puts) e
-            × RoseBy (misses puts) (P.state plant.old).shelf_faults (P.state plant.new).shelf_faults)) }
+        ensures stops { (setup : Setup) (h t : List Entry) → AllByRecursion IsDelivery t → IsReady setup (P.state plant.old) self.old h t →
+            IfErr result (λ e. (puts : List Bool)
+            × FailsLater setup (P.state plant.old) (P.state plant.new) self.new h t (entries_tries setup self.old.state names.now puts) e
+            × RoseBy (misses puts) (P.state plant.old).shelf_faults (P.state plant.new).shelf_faults) }
+        ensures opening { self.new.opening ≡ self.old.opening }
         ensures stays { Stays (P.state plant.old) (P.state plant.new) }
         ensures cause { IsErrOf result HubFault.DiskFault → Rose (P.state plant.old).disk_faults (P.state plant.new).disk_faults }
     {
@@ -141,13 +181,14 @@ impl<T: Planner> Hub<T> {
 
     // Tries each item that waits once, in order.
     fn try_waiting<P: Plant>(&mut self, alloc: Global, plant: &mut P) -> Result<(), HubFault>
-        ensures adds { (setup : Setup) (h : List Entry) → IsReady setup (P.state plant.old) self.old h → OnOk result ((puts : List Bool)
-            × Adds setup (P.state plant.new) self.new h (entries_trying setup self.old.state puts)
+        ensures adds { (setup : Setup) (h t : List Entry) → AllByRecursion IsDelivery t → IsReady setup (P.state plant.old) self.old h t → OnOk result ((puts : List Bool)
+            × Adds setup (P.state plant.old) (P.state plant.new) self.new h t (entries_trying setup self.old.state puts)
             × RoseBy (misses puts) (P.state plant.old).shelf_faults (P.state plant.new).shelf_faults) }
-        ensures stops { (setup : Setup) (h : List Entry) → IsReady setup (P.state plant.old) self.old h →
-            IfErr result (λ e. (e ≡ HubFault.DiskFault) ⊎ ((puts : List Bool)
-            × Stops setup (P.state plant.new) self.new h (entries_trying setup self.old.state puts) e
-            × RoseBy (misses puts) (P.state plant.old).shelf_faults (P.state plant.new).shelf_faults)) }
+        ensures stops { (setup : Setup) (h t : List Entry) → AllByRecursion IsDelivery t → IsReady setup (P.state plant.old) self.old h t →
+            IfErr result (λ e. (puts : List Bool)
+            × FailsLater setup (P.state plant.old) (P.state plant.new) self.new h t (entries_trying setup self.old.state puts) e
+            × RoseBy (misses puts) (P.state plant.old).shelf_faults (P.state plant.new).shelf_faults) }
+        ensures opening { self.new.opening ≡ self.old.opening }
         ensures stays { Stays (P.state plant.old) (P.state plant.new) }
         ensures cause { IsErrOf result HubFault.DiskFault → Rose (P.state plant.old).disk_faults (P.state plant.new).disk_faults }
     {
@@ -158,6 +199,48 @@ impl<T: Planner> Hub<T> {
         self.try_all(alloc, plant, &names)
     }
 
+    // Tries each item that waits once, and settles what is told of them.
+    fn try_settled<P: Plant>(&mut self, alloc: Global, plant: &mut P) -> Result<(), HubFault>
+        ensures turns { (setup : Setup) (h : List Entry) → IsReady setup (P.state plant.old) self.old h [] → OnOk result ((puts : List Bool)
+            × Turns setup (P.state plant.old) (P.state plant.new) self.new h [] (entries_trying setup self.old.state puts)
+            × RoseBy (misses puts) (P.state plant.old).shelf_faults (P.state plant.new).shelf_faults) }
+        ensures stops { (setup : Setup) (h : List Entry) → IsReady setup (P.state plant.old) self.old h [] →
+            IfErr result (λ e. (puts : List Bool)
+            × TurnStops setup (P.state plant.old) (P.state plant.new) self.new h [] (entries_trying setup self.old.state puts) e
+            × RoseBy (misses puts) (P.state plant.old).shelf_faults (P.state plant.new).shelf_faults) }
+        ensures opening { self.new.opening ≡ self.old.opening }
+        ensures stays { Stays (P.state plant.old) (P.state plant.new) }
+        ensures cause { IsErrOf result HubFault.DiskFault → Rose (P.state plant.old).disk_faults (P.state plant.new).disk_faults }
+    {
+        match self.try_waiting(alloc, plant) {
+            Ok(()) => self.settle_open(plant),
+            Err(fault) => Err(self.settle_rest(plant, fault)),
+        }
+    }
+
+    // Adds a turn's moment, and settles it with all that is pending.
+    fn begin_turn<P: Plant>(
+        &mut self,
+        alloc: Global,
+        plant: &mut P,
+        moment: u64,
+    ) -> Result<(), HubFault>
+        requires later { self.old.state.moment ≤ moment }
+        requires last { moment ≤ 253402300799 }
+        ensures turns { (limits : Limits) (h t : List Entry) → IsReady (setup_of T.means limits) (P.state plant.old) self.old h t →
+            OnOk result (Turns (setup_of T.means limits) (P.state plant.old) (P.state plant.new) self.new h t (entries.Moment moment ∷ [])) }
+        ensures stops { (limits : Limits) (h t : List Entry) → IsReady (setup_of T.means limits) (P.state plant.old) self.old h t →
+            IfErr result (TurnStops (setup_of T.means limits) (P.state plant.old) (P.state plant.new) self.new h t (entries.Moment moment ∷ [])) }
+        ensures opening { self.new.opening ≡ self.old.opening }
+        ensures stays { Stays (P.state plant.old) (P.state plant.new) }
+        ensures cause { IsErrOf result HubFault.DiskFault → Rose (P.state plant.old).disk_faults (P.state plant.new).disk_faults }
+    {
+        match self.append(alloc, plant, Entry::Moment { moment }) {
+            Ok(()) => self.settle_open(plant),
+            Err(fault) => Err(self.settle_rest(plant, fault)),
+        }
+    }
+
     // A turn where an item waits or an approval pends, and the log is open.
     fn turn_over<P: Plant>(
         &mut self,
@@ -166,53 +249,77 @@ impl<T: Planner> Hub<T> {
         clock: u64,
     ) -> Result<(), HubFault>
         requires { (nat_lt 0 (length self.old.state.waiting) || any_pends self.old.state) ≡ true }
-        ensures adds { (limits : Limits) (h : List Entry) → IsReady (setup_of T.means limits) (P.state plant.old) self.old h → OnOk result ((puts : List Bool)
-            × Adds (setup_of T.means limits) (P.state plant.new) self.new h (entries_turn (setup_of T.means limits) self.old.state clock puts)
+        ensures turns { (limits : Limits) (h t : List Entry) → IsReady (setup_of T.means limits) (P.state plant.old) self.old h t → OnOk result ((puts : List Bool)
+            × Turns (setup_of T.means limits) (P.state plant.old) (P.state plant.new) self.new h t (entries_turn (setup_of T.means limits) self.old.state clock puts)
             × RoseBy (misses puts) (P.state plant.old).shelf_faults (P.state plant.new).shelf_faults) }
-        ensures stops { (limits : Limits) (h : List Entry) → IsReady (setup_of T.means limits) (P.state plant.old) self.old h →
-            IfErr result (λ e. (e ≡ HubFault.DiskFault) ⊎ ((puts : List Bool)
-            × Stops (setup_of T.means limits) (P.state plant.new) self.new h (entries_turn (setup_of T.means limits) self.old.state clock puts) e
-            × RoseBy (misses puts) (P.state plant.old).shelf_faults (P.state plant.new).shelf_faults)) }
+        ensures stops { (limits : Limits) (h t : List Entry) → IsReady (setup_of T.means limits) (P.state plant.old) self.old h t →
+            IfErr result (λ e. (puts : List Bool)
+            × TurnStops (setup_of T.means limits) (P.state plant.old) (P.state plant.new) self.new h t (entries_turn (setup_of T.means limits) self.old.state clock puts) e
+            × RoseBy (misses puts) (P.state plant.old).shelf_faults (P.state plant.new).shelf_faults) }
+        ensures opening { self.new.opening ≡ self.old.opening }
         ensures stays { Stays (P.state plant.old) (P.state plant.new) }
         ensures cause { IsErrOf result HubFault.DiskFault → Rose (P.state plant.old).disk_faults (P.state plant.new).disk_faults }
     {
         let moment = self.state.now(clock);
-        match self.append(alloc, plant, Entry::Moment { moment }) {
-            Ok(()) => self.try_waiting(alloc, plant),
+        match self.begin_turn(alloc, plant, moment) {
+            Ok(()) => self.try_settled(alloc, plant),
             Err(fault) => Err(fault),
         }
     }
 
+    // A turn where the log is open.
+    fn turn_open<P: Plant>(
+        &mut self,
+        alloc: Global,
+        plant: &mut P,
+        clock: u64,
+    ) -> Result<(), HubFault>
+        ensures turns { (limits : Limits) (h t : List Entry) → IsReady (setup_of T.means limits) (P.state plant.old) self.old h t → OnOk result ((puts : List Bool)
+            × Turns (setup_of T.means limits) (P.state plant.old) (P.state plant.new) self.new h t (entries_turn (setup_of T.means limits) self.old.state clock puts)
+            × RoseBy (misses puts) (P.state plant.old).shelf_faults (P.state plant.new).shelf_faults) }
+        ensures stops { (limits : Limits) (h t : List Entry) → IsReady (setup_of T.means limits) (P.state plant.old) self.old h t →
+            IfErr result (λ e. (puts : List Bool)
+            × TurnStops (setup_of T.means limits) (P.state plant.old) (P.state plant.new) self.new h t (entries_turn (setup_of T.means limits) self.old.state clock puts) e
+            × RoseBy (misses puts) (P.state plant.old).shelf_faults (P.state plant.new).shelf_faults) }
+        ensures opening { self.new.opening ≡ self.old.opening }
+        ensures stays { Stays (P.state plant.old) (P.state plant.new) }
+        ensures cause { IsErrOf result HubFault.DiskFault → Rose (P.state plant.old).disk_faults (P.state plant.new).disk_faults }
+    {
+        if !self.state.is_waiting() && !self.state.pends() {
+            return self.settle_open(plant);
+        }
+        self.turn_over(alloc, plant, clock)
+    }
+
     /// A turn at this clock (seconds since 1970-01-01T00:00:00Z): the approvals whose deadline has come run out, and then each
-    /// item that waits is tried once, in order. Where no item waits and no approval pends nothing is added.
+    /// item that waits is tried once, in order. Where no item waits and no approval pends nothing is added. Behind it all is
+    /// settled, also where the log's room or memory ends within it: two syncs for the moment with all that was pending before,
+    /// and two for all deliveries.
     pub fn turn<P: Plant>(
         &mut self,
         alloc: Global,
         plant: &mut P,
         clock: u64,
     ) -> Result<(), HubFault>
-        ensures adds { (limits : Limits) (h : List Entry) → IsReady (setup_of T.means limits) (P.state plant.old) self.old h → OnOk result ((puts : List Bool)
-            × Adds (setup_of T.means limits) (P.state plant.new) self.new h (entries_turn (setup_of T.means limits) self.old.state clock puts)
-            × RoseBy (misses puts) (P.state plant.old).shelf_faults (P.state plant.new).shelf_faults) }
-        ensures stops { (limits : Limits) (h : List Entry) → IsReady (setup_of T.means limits) (P.state plant.old) self.old h →
-            IfErr result (λ e. (e ≡ HubFault.DiskFault) ⊎ ((puts : List Bool)
-            × Stops (setup_of T.means limits) (P.state plant.new) self.new h (entries_turn (setup_of T.means limits) self.old.state clock puts) e
-            × RoseBy (misses puts) (P.state plant.old).shelf_faults (P.state plant.new).shelf_faults)) }
+        ensures turns { (mid : Standing) × (self.old.broken ≡ false → mid ≡ self.old.state)
+            × ((limits : Limits) (h t : List Entry) → HubStands (setup_of T.means limits) (P.state plant.old) self.old h t →
+            LeadsTurn (setup_of T.means limits) self.old.broken (P.state plant.old) (P.state plant.new) self.new h t mid clock result) }
+        ensures opening { self.old.broken ≡ false → self.new.opening ≡ self.old.opening }
         ensures stays { Stays (P.state plant.old) (P.state plant.new) }
         ensures cause { IsErrOf result HubFault.DiskFault → Rose (P.state plant.old).disk_faults (P.state plant.new).disk_faults }
     {
-        self.mend(alloc, plant)?;
-        if !self.state.is_waiting() && !self.state.pends() {
-            return Ok(());
+        match self.mend(alloc, plant) {
+            Err(fault) => Err(fault),
+            Ok(()) => self.turn_open(alloc, plant, clock),
         }
-        self.turn_over(alloc, plant, clock)
     }
 }
 
 // Puts an item into its folder. The answer is false where the shelf failed.
 fn shelve<P: Plant>(alloc: Global, plant: &mut P, item: &QueuedItem) -> Result<bool, HubFault>
-    ensures ready { (setup : Setup) (h : List Entry) (hub : Kept) → IsReady setup (P.state plant.old) hub h → Among item.now (items setup h) → IsReady setup (P.state plant.new) hub h }
-    ensures there { IsTrue (P.state plant.old).honest → result ≡ Ok true → Has item.now.folder item.now.name (P.state plant.new).image.shelf }
+    ensures ready { (setup : Setup) (h t : List Entry) (hub : Kept) → IsReady setup (P.state plant.old) hub h t → Among item.now (items setup h) →
+        IsReady setup (P.state plant.new) hub h t × LeavesOnly (P.state plant.old) (P.state plant.new) (λ c. Stands setup c h) }
+    ensures there { IsTrue (P.state plant.old).honest → result ≡ Ok true → EachHas item.now.folder item.now.name (P.state plant.new) }
     ensures missed { result ≡ Ok false → Rose (P.state plant.old).shelf_faults (P.state plant.new).shelf_faults }
     ensures only { IfErr result (λ e. e ≡ HubFault.NoMemory) }
     ensures stays { Stays (P.state plant.old) (P.state plant.new) }

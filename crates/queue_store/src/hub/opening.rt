@@ -2,7 +2,7 @@
 ghost use Rattle.std.specs.Prelude.{◌≡◌, ◌⊎◌, [], List, length, true, false, IsTrue, IfOk, IfErr, OnOk, IsErrOf};
 ghost use Rattle.port_io.specs.Causes.{Rose};
 ghost use Rattle.mail_plan.specs.declared.entry.Entry.{Entry};
-ghost use Rattle.plant_dev.specs.Disk.{Stays, Reads};
+ghost use Rattle.plant_dev.specs.Disk.{Stays, Reads, LeavesOnly};
 ghost use Rattle.queue_disk.specs.Log.{FileOf, log_of};
 ghost use Rattle.queue_disk.specs.Reading.{IsHeld, IsRead, Begins};
 ghost use Rattle.hub_core.specs.declared.limits.Limits.{Limits};
@@ -20,7 +20,7 @@ use queue_disk::{Log, open_log};
 use std::alloc::Global;
 
 impl<T: Planner> Hub<T> {
-    ghost use Rattle.queue_store.specs.Stands.{Stands};
+    ghost use Rattle.queue_store.specs.Stands.{Stands, MayStand, Settled, IsOneOf};
     ghost use Rattle.queue_store.specs.Ready.{IsReady};
 
     /// Opens the hub under these limits: its state is that of the log's entries. A file of at most nine octets becomes a new log.
@@ -32,15 +32,48 @@ impl<T: Planner> Hub<T> {
         plant: &mut P,
         limits: Limits,
     ) -> Result<Hub<T>, HubFault>
-        ensures ready { (h : List Entry) → IsTrue (P.state plant.old).honest → Stands (setup_of T.means limits) (P.state plant.old).image h →
-            IfOk result (λ hub. IsReady (setup_of T.means limits) (P.state plant.new) hub h) }
+        // The hub is that of what the plant reads as, with nothing open. Each image of a moment in the call stands for what it
+        // stood for.
+        ensures ready { (h t : List Entry) → IsTrue (P.state plant.old).honest → Settled (setup_of T.means limits) (P.state plant.old) h t →
+            IfOk result (λ hub. (found : List Entry) × IsOneOf h t found × Stands (setup_of T.means limits) (P.state plant.old).image found
+            × IsReady (setup_of T.means limits) (P.state plant.new) hub found []) }
+        ensures any_moment { (h t : List Entry) → IsTrue (P.state plant.old).honest → Settled (setup_of T.means limits) (P.state plant.old) h t →
+            LeavesOnly (P.state plant.old) (P.state plant.new) (MayStand (setup_of T.means limits) h t) }
         ensures never { (h : List Entry) → IsTrue (P.state plant.old).honest → IsHistory (setup_of T.means limits) h → FileOf (P.state plant.old).image.file h →
             IfErr result (λ e. (e ≡ HubFault.DiskFault) ⊎ (e ≡ HubFault.NoMemory)) }
+        ensures settled { (h t : List Entry) → IsTrue (P.state plant.old).honest → Settled (setup_of T.means limits) (P.state plant.old) h t →
+            IfErr result (λ e. ((e ≡ HubFault.DiskFault) ⊎ (e ≡ HubFault.NoMemory)) × Settled (setup_of T.means limits) (P.state plant.new) h t) }
         ensures bad { IsTrue (P.state plant.old).honest → IfErr result (λ e. OpenFault (setup_of T.means limits) (P.state plant.old).image.file e) }
         ensures open { IfOk result (λ hub. hub.broken ≡ false) }
         ensures shelf { IsTrue (P.state plant.old).honest → (P.state plant.new).image.shelf ≡ (P.state plant.old).image.shelf }
         ensures stays { Stays (P.state plant.old) (P.state plant.new) }
         ensures cause { IsErrOf result HubFault.DiskFault → Rose (P.state plant.old).disk_faults (P.state plant.new).disk_faults }
+    {
+        Hub::open_as(alloc, plant, limits, 0)
+    }
+
+    // Opens it under this number of the opening.
+    pub(super) fn open_as<P: Plant>(
+        alloc: Global,
+        plant: &mut P,
+        limits: Limits,
+        opening: u64,
+    ) -> Result<Hub<T>, HubFault>
+        ensures ready { (h t : List Entry) → IsTrue (P.state plant.old).honest → Settled (setup_of T.means limits) (P.state plant.old) h t →
+            IfOk result (λ hub. (found : List Entry) × IsOneOf h t found × Stands (setup_of T.means limits) (P.state plant.old).image found
+            × IsReady (setup_of T.means limits) (P.state plant.new) hub found []) }
+        ensures any_moment { (h t : List Entry) → IsTrue (P.state plant.old).honest → Settled (setup_of T.means limits) (P.state plant.old) h t →
+            LeavesOnly (P.state plant.old) (P.state plant.new) (MayStand (setup_of T.means limits) h t) }
+        ensures never { (h : List Entry) → IsTrue (P.state plant.old).honest → IsHistory (setup_of T.means limits) h → FileOf (P.state plant.old).image.file h →
+            IfErr result (λ e. (e ≡ HubFault.DiskFault) ⊎ (e ≡ HubFault.NoMemory)) }
+        ensures settled { (h t : List Entry) → IsTrue (P.state plant.old).honest → Settled (setup_of T.means limits) (P.state plant.old) h t →
+            IfErr result (λ e. ((e ≡ HubFault.DiskFault) ⊎ (e ≡ HubFault.NoMemory)) × Settled (setup_of T.means limits) (P.state plant.new) h t) }
+        ensures bad { IsTrue (P.state plant.old).honest → IfErr result (λ e. OpenFault (setup_of T.means limits) (P.state plant.old).image.file e) }
+        ensures open { IfOk result (λ hub. hub.broken ≡ false) }
+        ensures shelf { IsTrue (P.state plant.old).honest → (P.state plant.new).image.shelf ≡ (P.state plant.old).image.shelf }
+        ensures stays { Stays (P.state plant.old) (P.state plant.new) }
+        ensures cause { IsErrOf result HubFault.DiskFault → Rose (P.state plant.old).disk_faults (P.state plant.new).disk_faults }
+        ensures opening { IfOk result (λ hub. hub.opening ≡ opening) }
     {
         let mut log = open_log(plant, limits.log)?;
         let state = replay(alloc, plant, limits, &mut log)?;
@@ -48,6 +81,7 @@ impl<T: Planner> Hub<T> {
             state,
             log,
             broken: false,
+            opening,
         })
     }
 }
@@ -82,6 +116,7 @@ fn replay<P: Plant, T: Planner>(
     ensures cause { IsErrOf result HubFault.DiskFault → Rose (P.state plant.old).disk_faults (P.state plant.new).disk_faults }
     ensures reads { IsTrue (P.state plant.old).honest → Reads (P.state plant.old) (P.state plant.new) }
     ensures most { log.new.most ≡ log.old.most }
+    ensures pending { log.new.pending ≡ log.old.pending }
     ensures state { (h : List Entry) → IsTrue (P.state plant.old).honest → IsRead (P.state plant.old).image.file h [] log.old →
         IfOk result (λ state. state ≡ standing (setup_of T.means limits) h) }
     ensures end { (h : List Entry) → IsTrue (P.state plant.old).honest → IsRead (P.state plant.old).image.file h [] log.old →

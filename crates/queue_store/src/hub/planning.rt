@@ -1,16 +1,18 @@
 // Organisations that come into force, and releases that are made for the hub.
-ghost use Rattle.std.specs.Prelude.{◌≡◌, ◌⊎◌, ◌<◌, ◌++◌, List, false, IsTrue, IsOk, IfOk, IfErr, IfSome, OnOk, IsErrOf, option_map, unwrap_or};
+ghost use Rattle.std.specs.Prelude.{◌≡◌, ◌<◌, ◌++◌, List, false, IsTrue, IsOk, IfOk, IfErr, IfSome, OnOk, IsErrOf, option_map, unwrap_or};
 ghost use Rattle.std.specs.Arc.{arc_value};
 ghost use Rattle.port_io.specs.Causes.{Rose};
 ghost use Rattle.mail_plan.specs.declared.entry.Entry.{Entry};
-ghost use Rattle.plant_dev.specs.Disk.{Stays};
+ghost use Rattle.plant_dev.specs.Disk.{Stays, LeavesOnly};
 ghost use Rattle.hub_core.specs.declared.limits.Limits.{Limits};
 ghost use Rattle.hub_core.specs.Setup.{Setup, setup_of, texts_of};
 ghost use Rattle.hub_core.specs.Journal.{IsJournaled};
 ghost use Rattle.hub_core.specs.Mail.{IsTask};
-ghost use Rattle.hub_core.specs.Standing.{mail_of, task_name, first_task};
+ghost use Rattle.hub_core.specs.Standing.{Standing, mail_of, task_name, first_task};
 ghost use Rattle.hub_core.specs.Replies.{reply_commit};
-ghost use Rattle.queue_store.specs.Ready.{IsReady, Adds, Declined};
+ghost use Rattle.queue_store.specs.Stands.{MayStand};
+ghost use Rattle.queue_store.specs.Ready.{IsReady, HubStands, StandsYet, Adds, Fails, FailsBy, Leaves};
+ghost use Rattle.queue_store.specs.Turning.{Leads};
 ghost use Rattle.queue_store.specs.Planning.{IsOrgReply, AnswersOrg, IsCommitReply, reply_of_end};
 
 use super::Hub;
@@ -23,7 +25,7 @@ use std::alloc::Global;
 
 impl<T: Planner> Hub<T> {
     ghost use Rattle.queue_store.specs.Planning.{IsInForce, texts_asked, entries_organise, entries_commit};
-    ghost use Rattle.queue_store.specs.Refusals.{RefusesOrg};
+    ghost use Rattle.queue_store.specs.Refusals.{RefusedOrg};
 
     // The organisation of these texts comes into force, where the log is open.
     fn change<P: Plant>(
@@ -34,13 +36,13 @@ impl<T: Planner> Hub<T> {
         rules: Bytes,
     ) -> Result<u32, HubFault>
         ensures epoch { IfOk result (IsInForce (setup_of T.means self.old.state.limits) self.old.state (record { directory = directory; rules = rules })) }
-        ensures adds { (limits : Limits) (h : List Entry) → IsReady (setup_of T.means limits) (P.state plant.old) self.old h →
-            OnOk result (Adds (setup_of T.means limits) (P.state plant.new) self.new h (entries_organise (setup_of T.means limits) self.old.state (record { directory = directory; rules = rules }))) }
-        ensures declines { (limits : Limits) (h : List Entry) → IsReady (setup_of T.means limits) (P.state plant.old) self.old h →
-            IfErr result (λ e. (e ≡ HubFault.DiskFault)
-            ⊎ RefusesOrg (setup_of T.means limits) (P.state plant.new) self.new h self.old.state (record { directory = directory; rules = rules }) e) }
+        ensures adds { (limits : Limits) (h t : List Entry) → IsReady (setup_of T.means limits) (P.state plant.old) self.old h t →
+            OnOk result (Adds (setup_of T.means limits) (P.state plant.old) (P.state plant.new) self.new h t (entries_organise (setup_of T.means limits) self.old.state (record { directory = directory; rules = rules }))) }
+        ensures fails { (limits : Limits) (h t : List Entry) → IsReady (setup_of T.means limits) (P.state plant.old) self.old h t →
+            IfErr result (FailsBy (setup_of T.means limits) (P.state plant.old) (P.state plant.new) self.new h t (RefusedOrg (setup_of T.means limits) self.old.state (record { directory = directory; rules = rules }) (h ++ t))) }
         ensures open { self.old.broken ≡ false → IsOk result → self.new.broken ≡ false }
         ensures shelf { IsTrue (P.state plant.old).honest → (P.state plant.new).image.shelf ≡ (P.state plant.old).image.shelf }
+        ensures opening { self.new.opening ≡ self.old.opening }
         ensures stays { Stays (P.state plant.old) (P.state plant.new) }
         ensures cause { IsErrOf result HubFault.DiskFault → Rose (P.state plant.old).disk_faults (P.state plant.new).disk_faults }
     {
@@ -74,13 +76,13 @@ impl<T: Planner> Hub<T> {
         rules: Option<Bytes>,
     ) -> Result<u32, HubFault>
         ensures epoch { IfOk result (IsInForce (setup_of T.means self.old.state.limits) self.old.state (texts_asked self.old.state directory rules)) }
-        ensures adds { (limits : Limits) (h : List Entry) → IsReady (setup_of T.means limits) (P.state plant.old) self.old h →
-            OnOk result (Adds (setup_of T.means limits) (P.state plant.new) self.new h (entries_organise (setup_of T.means limits) self.old.state (texts_asked self.old.state directory rules))) }
-        ensures declines { (limits : Limits) (h : List Entry) → IsReady (setup_of T.means limits) (P.state plant.old) self.old h →
-            IfErr result (λ e. (e ≡ HubFault.DiskFault)
-            ⊎ RefusesOrg (setup_of T.means limits) (P.state plant.new) self.new h self.old.state (texts_asked self.old.state directory rules) e) }
+        ensures adds { (limits : Limits) (h t : List Entry) → IsReady (setup_of T.means limits) (P.state plant.old) self.old h t →
+            OnOk result (Adds (setup_of T.means limits) (P.state plant.old) (P.state plant.new) self.new h t (entries_organise (setup_of T.means limits) self.old.state (texts_asked self.old.state directory rules))) }
+        ensures fails { (limits : Limits) (h t : List Entry) → IsReady (setup_of T.means limits) (P.state plant.old) self.old h t →
+            IfErr result (FailsBy (setup_of T.means limits) (P.state plant.old) (P.state plant.new) self.new h t (RefusedOrg (setup_of T.means limits) self.old.state (texts_asked self.old.state directory rules) (h ++ t))) }
         ensures open { self.old.broken ≡ false → IsOk result → self.new.broken ≡ false }
         ensures shelf { IsTrue (P.state plant.old).honest → (P.state plant.new).image.shelf ≡ (P.state plant.old).image.shelf }
+        ensures opening { self.new.opening ≡ self.old.opening }
         ensures stays { Stays (P.state plant.old) (P.state plant.new) }
         ensures cause { IsErrOf result HubFault.DiskFault → Rose (P.state plant.old).disk_faults (P.state plant.new).disk_faults }
     {
@@ -107,19 +109,21 @@ impl<T: Planner> Hub<T> {
         directory: Option<Bytes>,
         rules: Option<Bytes>,
     ) -> Result<u32, HubFault>
-        ensures epoch { self.old.broken ≡ false → IfOk result (IsInForce (setup_of T.means self.old.state.limits) self.old.state (texts_asked self.old.state directory rules)) }
-        ensures adds { (limits : Limits) (h : List Entry) → IsReady (setup_of T.means limits) (P.state plant.old) self.old h →
-            OnOk result (Adds (setup_of T.means limits) (P.state plant.new) self.new h (entries_organise (setup_of T.means limits) self.old.state (texts_asked self.old.state directory rules))) }
-        ensures declines { (limits : Limits) (h : List Entry) → IsReady (setup_of T.means limits) (P.state plant.old) self.old h →
-            IfErr result (λ e. (e ≡ HubFault.DiskFault)
-            ⊎ RefusesOrg (setup_of T.means limits) (P.state plant.new) self.new h self.old.state (texts_asked self.old.state directory rules) e) }
+        ensures adds { (mid : Standing) × (self.old.broken ≡ false → mid ≡ self.old.state) × IfOk result (IsInForce (setup_of T.means mid.limits) mid (texts_asked mid directory rules))
+            × ((limits : Limits) (h t : List Entry) → HubStands (setup_of T.means limits) (P.state plant.old) self.old h t →
+            Leads (setup_of T.means limits) self.old.broken (P.state plant.old) (P.state plant.new) self.new h t mid (entries_organise (setup_of T.means limits) mid (texts_asked mid directory rules)) (RefusedOrg (setup_of T.means limits) mid (texts_asked mid directory rules)) result) }
+        ensures any_moment { (limits : Limits) (h t : List Entry) → HubStands (setup_of T.means limits) (P.state plant.old) self.old h t →
+            LeavesOnly (P.state plant.old) (P.state plant.new) (MayStand (setup_of T.means limits) h t) }
         ensures open { IsOk result → self.new.broken ≡ false }
         ensures shelf { IsTrue (P.state plant.old).honest → (P.state plant.new).image.shelf ≡ (P.state plant.old).image.shelf }
+        ensures opening { self.old.broken ≡ false → self.new.opening ≡ self.old.opening }
         ensures stays { Stays (P.state plant.old) (P.state plant.new) }
         ensures cause { IsErrOf result HubFault.DiskFault → Rose (P.state plant.old).disk_faults (P.state plant.new).disk_faults }
     {
-        self.mend(alloc, plant)?;
-        self.change_given(alloc, plant, directory, rules)
+        match self.mend(alloc, plant) {
+            Err(fault) => Err(fault),
+            Ok(()) => self.change_given(alloc, plant, directory, rules),
+        }
     }
 
     /// The task of the first release, by submission and release, that isn't categorised and whose submission's number leaves
@@ -135,9 +139,12 @@ impl<T: Planner> Hub<T> {
         ensures first { self.old.broken ≡ false → IfOk result (λ task. option_map (λ (t : _). task_name t.input) task ≡ first_task residue workers 1 self.old.state.live) }
         ensures made { self.old.broken ≡ false → IfOk result (λ task. IfSome task (λ t. IfSome (mail_of self.old.state t.input.number)
             (λ mail. IsTask t.input.number mail t.input (texts_of T.means (arc_value t.org))))) }
-        ensures kept { (setup : Setup) (h : List Entry) → IsReady setup (P.state plant.old) self.old h → IsReady setup (P.state plant.new) self.new h }
+        ensures kept { (limits : Limits) (h t : List Entry) → HubStands (setup_of T.means limits) (P.state plant.old) self.old h t → StandsYet (setup_of T.means limits) self.old.broken (P.state plant.new) self.new h t }
+        ensures any_moment { (limits : Limits) (h t : List Entry) → HubStands (setup_of T.means limits) (P.state plant.old) self.old h t →
+            LeavesOnly (P.state plant.old) (P.state plant.new) (MayStand (setup_of T.means limits) h t) }
         ensures refused { self.old.broken ≡ false → IfErr result (λ e. e ≡ HubFault.NoMemory) }
         ensures open { IsOk result → self.new.broken ≡ false }
+        ensures opening { self.old.broken ≡ false → self.new.opening ≡ self.old.opening }
         ensures stays { Stays (P.state plant.old) (P.state plant.new) }
         ensures cause { IsErrOf result HubFault.DiskFault → Rose (P.state plant.old).disk_faults (P.state plant.new).disk_faults }
     {
@@ -156,13 +163,13 @@ impl<T: Planner> Hub<T> {
         outcome: Outcome<T>,
     ) -> Result<CommitEnd, HubFault>
         ensures end { IfOk result (λ end. reply_of_end end ≡ reply_commit self.old.state outcome.input (texts_of T.means outcome.org)) }
-        ensures adds { (limits : Limits) (h : List Entry) → IsReady (setup_of T.means limits) (P.state plant.old) self.old h →
-            OnOk result (Adds (setup_of T.means limits) (P.state plant.new) self.new h (entries_commit self.old.state outcome.input (texts_of T.means outcome.org) outcome.release)) }
-        ensures declines { (limits : Limits) (h : List Entry) → IsReady (setup_of T.means limits) (P.state plant.old) self.old h →
-            IfErr result (λ e. (e ≡ HubFault.DiskFault)
-            ⊎ Declined (setup_of T.means limits) (P.state plant.new) self.new h (entries_commit self.old.state outcome.input (texts_of T.means outcome.org) outcome.release) e) }
+        ensures adds { (limits : Limits) (h t : List Entry) → IsReady (setup_of T.means limits) (P.state plant.old) self.old h t →
+            OnOk result (Adds (setup_of T.means limits) (P.state plant.old) (P.state plant.new) self.new h t (entries_commit self.old.state outcome.input (texts_of T.means outcome.org) outcome.release)) }
+        ensures fails { (limits : Limits) (h t : List Entry) → IsReady (setup_of T.means limits) (P.state plant.old) self.old h t →
+            IfErr result (Fails (setup_of T.means limits) (P.state plant.old) (P.state plant.new) self.new h t (entries_commit self.old.state outcome.input (texts_of T.means outcome.org) outcome.release)) }
         ensures open { self.old.broken ≡ false → IsOk result → self.new.broken ≡ false }
         ensures shelf { IsTrue (P.state plant.old).honest → (P.state plant.new).image.shelf ≡ (P.state plant.old).image.shelf }
+        ensures opening { self.new.opening ≡ self.old.opening }
         ensures stays { Stays (P.state plant.old) (P.state plant.new) }
         ensures cause { IsErrOf result HubFault.DiskFault → Rose (P.state plant.old).disk_faults (P.state plant.new).disk_faults }
     {
@@ -189,23 +196,25 @@ impl<T: Planner> Hub<T> {
         plant: &mut P,
         outcome: Outcome<T>,
     ) -> Result<CommitEnd, HubFault>
-        ensures end { self.old.broken ≡ false →
-            IfOk result (λ end. reply_of_end end ≡ reply_commit self.old.state outcome.input (texts_of T.means outcome.org)) }
-        ensures adds { (limits : Limits) (h : List Entry) → IsReady (setup_of T.means limits) (P.state plant.old) self.old h →
-            OnOk result (Adds (setup_of T.means limits) (P.state plant.new) self.new h (entries_commit self.old.state outcome.input (texts_of T.means outcome.org) outcome.release)) }
-        ensures declines { (limits : Limits) (h : List Entry) → IsReady (setup_of T.means limits) (P.state plant.old) self.old h →
-            IfErr result (λ e. (e ≡ HubFault.DiskFault)
-            ⊎ Declined (setup_of T.means limits) (P.state plant.new) self.new h (entries_commit self.old.state outcome.input (texts_of T.means outcome.org) outcome.release) e) }
-        ensures journal { (limits : Limits) (h : List Entry) → IsReady (setup_of T.means limits) (P.state plant.old) self.old h →
-            OnOk result (IsJournaled (setup_of T.means limits) (h ++ entries_commit self.old.state outcome.input (texts_of T.means outcome.org) outcome.release)) }
+        ensures adds { (mid : Standing) × (self.old.broken ≡ false → mid ≡ self.old.state)
+            × IfOk result (λ end. reply_of_end end ≡ reply_commit mid outcome.input (texts_of T.means outcome.org))
+            × ((limits : Limits) (h t : List Entry) → HubStands (setup_of T.means limits) (P.state plant.old) self.old h t →
+            Leads (setup_of T.means limits) self.old.broken (P.state plant.old) (P.state plant.new) self.new h t mid (entries_commit mid outcome.input (texts_of T.means outcome.org) outcome.release) (λ g. Leaves limits.log g (entries_commit mid outcome.input (texts_of T.means outcome.org) outcome.release)) result) }
+        ensures any_moment { (limits : Limits) (h t : List Entry) → HubStands (setup_of T.means limits) (P.state plant.old) self.old h t →
+            LeavesOnly (P.state plant.old) (P.state plant.new) (MayStand (setup_of T.means limits) h t) }
+        ensures journal { (limits : Limits) (h t : List Entry) → IsReady (setup_of T.means limits) (P.state plant.old) self.old h t →
+            OnOk result (IsJournaled (setup_of T.means limits) (h ++ (t ++ entries_commit self.old.state outcome.input (texts_of T.means outcome.org) outcome.release))) }
         ensures open { IsOk result → self.new.broken ≡ false }
         ensures shelf { IsTrue (P.state plant.old).honest → (P.state plant.new).image.shelf ≡ (P.state plant.old).image.shelf }
+        ensures opening { self.old.broken ≡ false → self.new.opening ≡ self.old.opening }
         ensures stays { Stays (P.state plant.old) (P.state plant.new) }
         ensures cause { IsErrOf result HubFault.DiskFault → Rose (P.state plant.old).disk_faults (P.state plant.new).disk_faults }
     {
         hub_core::laws::reports_list_what_is_sent::<T>();
-        self.mend(alloc, plant)?;
-        self.commit_outcome(alloc, plant, outcome)
+        match self.mend(alloc, plant) {
+            Err(fault) => Err(fault),
+            Ok(()) => self.commit_outcome(alloc, plant, outcome),
+        }
     }
 }
 

@@ -1,4 +1,4 @@
-use Rattle.std.proofs.Common.{◌≡◌, inl, inr, [], ◌∷◌, ap, ◌∙◌, sym, subst}
+use Rattle.std.proofs.Common.{◌≡◌, [], ◌∷◌, ap, ◌∙◌, sym, subst}
 use Rattle.std.specs.Prelude.{is_some, IfSome}
 use Rattle.std.specs.Arc.{arc_value}
 use Rattle.std.proofs.lemmas.Result.{on_ok_weaker}
@@ -9,12 +9,12 @@ use Rattle.hub_core.specs.Mail.{LiveMail, IsTask, is_uncategorised}
 use Rattle.hub_core.specs.Standing.{mail_of}
 use Rattle.queue_store.specs.Ready.{Kept}
 use Rattle.queue_store.specs.Calls.{entries_made, entries_at}
-use Rattle.queue_store.proofs.Stepping.{adds-along, declined-along, err_weaker}
+use Rattle.queue_store.proofs.Adding.{adds-along, fails-along, err_weaker}
 use Rattle.queue_store.proofs.Planning.{task_adds, held_of}
 use Rattle.queue_store.proofs.hub.Hub.categorise.Goals as goal
 
 pub returns-in-Ok-clause-adds : goal.returns-in-Ok-clause-adds
-returns-in-Ok-clause-adds g c limits h ready =
+returns-in-Ok-clause-adds g c limits h t ready =
     let setup = setup_of g.T.Planner.means limits in
     let name = c.args.name.now in
     let s = c.args.self.now.state in
@@ -31,10 +31,10 @@ returns-in-Ok-clause-adds g c limits h ready =
     ap (λ (r : Release). entries.Categorised c.in-Ok.outcome.input.number c.in-Ok.outcome.input.release r ∷ []) (c.add_release.ensures.prescribed limits)
     ∙ (λ i. entries_made setup (c.in-Ok.ensures i).input (texts_of g.T.Planner.means (c.in-Ok.ensures i).org)) in
     let same : entries.Categorised c.in-Ok.outcome.input.number c.in-Ok.outcome.input.release c.in-Ok.outcome.release ∷ [] ≡ entries_at setup s name = own ∙ task_adds setup s input org name wait made release in
-    on_ok_weaker c.add_release.result (λ done. adds-along setup _ _ h _ _ same done) (c.add_release.ensures.adds limits h ready)
+    on_ok_weaker c.add_release.result (λ done. adds-along setup _ _ _ h t _ _ same done) (c.add_release.ensures.adds limits h t ready)
 
-pub returns-in-Ok-clause-declines : goal.returns-in-Ok-clause-declines
-returns-in-Ok-clause-declines g c limits h ready =
+pub returns-in-Ok-clause-fails : goal.returns-in-Ok-clause-fails
+returns-in-Ok-clause-fails g c limits h t ready =
     let setup = setup_of g.T.Planner.means limits in
     let name = c.args.name.now in
     let s = c.args.self.now.state in
@@ -51,8 +51,4 @@ returns-in-Ok-clause-declines g c limits h ready =
     ap (λ (r : Release). entries.Categorised c.in-Ok.outcome.input.number c.in-Ok.outcome.input.release r ∷ []) (c.add_release.ensures.prescribed limits)
     ∙ (λ i. entries_made setup (c.in-Ok.ensures i).input (texts_of g.T.Planner.means (c.in-Ok.ensures i).org)) in
     let same : entries.Categorised c.in-Ok.outcome.input.number c.in-Ok.outcome.input.release c.in-Ok.outcome.release ∷ [] ≡ entries_at setup s name = own ∙ task_adds setup s input org name wait made release in
-    err_weaker _ _ c.add_release.result (λ e way. elim way [
-      | inl disk ↦ inl disk
-      | inr declined ↦ inr (declined-along setup _ _ h _ _ e same declined)
-    ])
-    (c.add_release.ensures.declines limits h ready)
+    err_weaker _ _ c.add_release.result (λ e way. fails-along setup _ _ _ h t _ _ e same way) (c.add_release.ensures.fails limits h t ready)

@@ -9,9 +9,10 @@ use Rattle.queue_store.proofs.hub.Hub.categorise_each.Given as goal
 
 abbrev pub invariant-loop-name : goal.invariant-loop-name
 invariant-loop-name g l = record {
-  goes : (limits : Limits) (h : List Entry) → IsReady (setup_of g.T.Planner.means limits) (g.P.Plant.state l.fn.plant) l.fn.self h →
-      (done : List Entry) × Adds (setup_of g.T.Planner.means limits) (g.P.Plant.state l.plant) l.self h done
+  goes : (limits : Limits) (h t : List Entry) → IsReady (setup_of g.T.Planner.means limits) (g.P.Plant.state l.fn.plant) l.fn.self h t →
+      (done : List Entry) × Adds (setup_of g.T.Planner.means limits) (g.P.Plant.state l.fn.plant) (g.P.Plant.state l.plant) l.self h t done
       × (done ++ entries_all (setup_of g.T.Planner.means limits) l.self.state (drop l.name-index l.names)
       ≡ entries_all (setup_of g.T.Planner.means limits) l.fn.self.state l.names);
+  opening : l.self.opening ≡ l.fn.self.opening;
   stays : Stays (g.P.Plant.state l.fn.plant) (g.P.Plant.state l.plant);
 }

@@ -1,22 +1,23 @@
-use Rattle.std.proofs.Common.{rules, ◌≡◌, false, [], ◌∷◌, length, cond, ap, ◌∙◌, sym, subst, arith}
-use Rattle.std.specs.Prelude.{◌||◌, nat_lt}
+use Rattle.std.proofs.Common.{[], refl, ap, inl, arith}
 use Rattle.hub_core.specs.Setup.{setup_of}
-use Rattle.hub_core.specs.Standing.{state_after, any_pends}
-use Rattle.queue_store.specs.Ready.{Kept, IsReady}
-use Rattle.queue_store.specs.Calls.{moment_entry, entries_trying}
-use Rattle.queue_store.proofs.Stepping.{adds-none}
-use Rattle.queue_store.proofs.Turning.{idle}
+use Rattle.queue_store.specs.Ready.{Kept}
+use Rattle.queue_store.proofs.Turning.{leads_turn}
 use Rattle.queue_store.proofs.hub.Hub.turn.Goals as goal
 
-pub returns-then-not-pends-clause-adds : goal.returns-then-not-pends-clause-adds
-returns-then-not-pends-clause-adds g c limits h ready =
-    let setup = setup_of g.T.Planner.means limits in
-    let s = c.args.self.now.state in
-    let whole = c.in_ok-mend.ensures.whole ready.whole in
-    let ready' = subst (λ (k : Kept). IsReady setup (g.P.Plant.state c.mend.new.plant) k h) (sym whole.1) (subst (λ p. IsReady setup (g.P.Plant.state p) c.args.self.now h) (sym whole.2) ready) in
-    let empty : nat_lt 0 (length c.mend.new.self.state.waiting) ≡ false = search rules in
-    let quiet : any_pends c.mend.new.self.state ≡ false = search rules in
-    let none = ap (λ (k : Kept). nat_lt 0 (length k.state.waiting) || any_pends k.state) (sym whole.1) ∙ idle _ _ empty quiet in
-    let all = moment_entry s c.args.clock ∷ entries_trying setup (state_after setup s (moment_entry s c.args.clock)) [] in
-    let later = c.mend.ensures.stays.shelf_faults in
-    ([], adds-none setup _ _ h _ (ap (λ t. cond t all []) none) ready', omega (arith, later))
+pub returns-in-Err-clause-turns : goal.returns-in-Err-clause-turns
+returns-in-Err-clause-turns g c = (
+  c.args.self.now.state,
+  λ whole. refl,
+  λ limits h t stands. (let later = c.mend.ensures.stays.shelf_faults in ([], omega (arith, later), inl (c.in-Err.ensures.failed limits h t stands))),
+)
+
+pub returns-in-Ok-clause-turns : goal.returns-in-Ok-clause-turns
+returns-in-Ok-clause-turns g c = (
+  c.mend.new.self.state,
+  λ whole. ap (λ (k : Kept). k.state) (c.in-Ok.ensures.whole whole).1,
+  λ limits h t stands.
+      let setup = setup_of g.T.Planner.means limits in
+      let m = c.in-Ok.ensures.mended limits h t stands in
+      leads_turn setup (g.P.Plant.state c.args.plant.now) (g.P.Plant.state c.mend.new.plant) (g.P.Plant.state c.turn_open.new.plant) c.mend.new.self c.turn_open.new.self h t c.args.clock c.turn_open.result c.args.self.now.broken m
+      c.mend.ensures.stays.shelf_faults (c.mend.ensures.any_moment limits h t stands) (c.turn_open.ensures.turns limits m.kept m.pending m.ready) (c.turn_open.ensures.stops limits m.kept m.pending m.ready),
+)

@@ -1,72 +1,65 @@
-use Rattle.std.proofs.Common.{inl, inr, ◌≤◌, ◌++◌, [], ◌∷◌, List, refl, ap, ◌∙◌, sym, subst, arith, append-nil}
+use Rattle.std.proofs.Common.{◌++◌, [], ◌∷◌, refl, ap, ◌∙◌, arith}
 use Rattle.std.proofs.lemmas.Result.{on_ok_weaker}
-use Rattle.mail_plan.specs.declared.entry.Entry.{Entry}
 use Rattle.mail_plan.specs.declared.entry.Entry.TheVariants as entries
-use Rattle.hub_core.specs.declared.limits.Limits.{Limits}
 use Rattle.hub_core.specs.Setup.{setup_of}
-use Rattle.hub_core.specs.Standing.{now_of, state_after}
+use Rattle.hub_core.specs.Standing.{now_of}
 use Rattle.queue_store.specs.Ready.{Kept}
 use Rattle.queue_store.specs.Calls.{after_entries}
-use Rattle.queue_store.proofs.Stepping.{stops-along, adds-along, stops-first, err_weaker, moment_follows, ready-limits}
-use Rattle.queue_store.proofs.Turning.{state-goes, adds-joined, stops-joined, stops-more, turn-entries}
+use Rattle.queue_store.proofs.Adding.{err_weaker}
+use Rattle.queue_store.proofs.Runs.{state-turns, turns-joined, turns-along, turn-stops-joined, turn-stops-along, turn-stops-more}
+use Rattle.queue_store.proofs.Turning.{turn-entries}
 use Rattle.queue_store.proofs.hub.Hub.turn_over.Goals as goal
 
-pub returns-in-Ok-clause-adds : goal.returns-in-Ok-clause-adds
-returns-in-Ok-clause-adds g c limits h ready =
+pub returns-in-Ok-clause-turns : goal.returns-in-Ok-clause-turns
+returns-in-Ok-clause-turns g c limits h t ready =
     let setup = setup_of g.T.Planner.means limits in
+    let s0 = g.P.Plant.state c.args.plant.now in
+    let s1 = g.P.Plant.state c.begin_turn.new.plant in
+    let s2 = g.P.Plant.state c.try_settled.new.plant in
     let s = c.args.self.now.state in
     let moment = c.now-moment.result in
-    let entry = entries.Moment moment in
-    let begun = entry ∷ [] in
-    let later : s.moment ≤ moment = subst (λ (k : Kept). k.state.moment ≤ moment) c.self.view_is c.now-moment.ensures.later in
+    let begun = entries.Moment moment ∷ [] in
     let at = c.now-moment.ensures.value ∙ ap (λ (k : Kept). now_of k.state c.args.clock) c.self.view_is in
-    let same = ap (λ (l : Limits). state_after (setup_of g.T.Planner.means l) s entry) (sym (ready-limits setup _ _ h ready)) in
-    let one = c.in-Ok.ensures.adds setup h ready (moment_follows setup _ _ h moment ready later c.now-moment.ensures.last) same in
-    on_ok_weaker c.try_waiting.result (λ tried. (
+    let one = c.in-Ok.ensures.turns limits h t ready in
+    let rise = c.begin_turn.ensures.stays.shelf_faults in
+    on_ok_weaker c.try_settled.result (λ tried. (
       tried.0,
-      adds-along setup _ _ h _ _ (turn-entries setup s _ c.args.clock moment tried.0 c.requires at (state-goes setup _ _ _ _ h begun ready one.ready)) (adds-joined setup _ _ _ _ h begun _ one tried.1),
-      (let so_far = tried.2 in let stays = c.append.ensures.stays.shelf_faults in omega (arith, so_far, stays)),
+      turns-along setup s0 s2 c.try_settled.new.self h t _ _ (turn-entries setup s _ c.args.clock moment tried.0 c.requires at (state-turns setup s0 s1 c.args.self.now c.begin_turn.new.self h t begun ready one.ready))
+          (turns-joined setup s0 s1 s2 c.begin_turn.new.self c.try_settled.new.self h t begun _ one tried.1),
+      (let so_far = tried.2 in omega (arith, so_far, rise)),
     ))
-    (c.try_waiting.ensures.adds setup (h ++ begun) one.ready)
+    (c.try_settled.ensures.turns setup ((h ++ t) ++ begun) one.ready)
 
 pub returns-in-Ok-clause-stops : goal.returns-in-Ok-clause-stops
-returns-in-Ok-clause-stops g c limits h ready =
+returns-in-Ok-clause-stops g c limits h t ready =
     let setup = setup_of g.T.Planner.means limits in
+    let s0 = g.P.Plant.state c.args.plant.now in
+    let s1 = g.P.Plant.state c.begin_turn.new.plant in
+    let s2 = g.P.Plant.state c.try_settled.new.plant in
     let s = c.args.self.now.state in
     let moment = c.now-moment.result in
-    let entry = entries.Moment moment in
-    let begun = entry ∷ [] in
-    let later : s.moment ≤ moment = subst (λ (k : Kept). k.state.moment ≤ moment) c.self.view_is c.now-moment.ensures.later in
+    let begun = entries.Moment moment ∷ [] in
     let at = c.now-moment.ensures.value ∙ ap (λ (k : Kept). now_of k.state c.args.clock) c.self.view_is in
-    let same = ap (λ (l : Limits). state_after (setup_of g.T.Planner.means l) s entry) (sym (ready-limits setup _ _ h ready)) in
-    let one = c.in-Ok.ensures.adds setup h ready (moment_follows setup _ _ h moment ready later c.now-moment.ensures.last) same in
-    let rise = c.append.ensures.stays.shelf_faults in
-    err_weaker _ _ c.try_waiting.result (λ e ends. elim ends [
-      | inl disk ↦ inl disk
-      | inr tried ↦ inr (
-        tried.0,
-        stops-along setup _ _ h _ _ e
-            (ap (λ (xs : List Entry). begun ++ xs) (append-nil _) ∙ turn-entries setup s _ c.args.clock moment tried.0 c.requires at (state-goes setup _ _ _ _ h begun ready one.ready))
-            (stops-joined setup _ _ _ _ h begun _ [] e one tried.1),
-        (let so_far = tried.2 in omega (arith, so_far, rise)),
-      )
-    ])
-    (c.try_waiting.ensures.stops setup (h ++ begun) one.ready)
+    let one = c.in-Ok.ensures.turns limits h t ready in
+    let rise = c.begin_turn.ensures.stays.shelf_faults in
+    err_weaker _ _ c.try_settled.result (λ e tried. (
+      tried.0,
+      turn-stops-along setup s0 s2 c.try_settled.new.self h t _ _ e (turn-entries setup s _ c.args.clock moment tried.0 c.requires at (state-turns setup s0 s1 c.args.self.now c.begin_turn.new.self h t begun ready one.ready))
+          (turn-stops-joined setup s0 s1 s2 c.begin_turn.new.self c.try_settled.new.self h t begun _ e one tried.1),
+      (let so_far = tried.2 in omega (arith, so_far, rise)),
+    ))
+    (c.try_settled.ensures.stops setup ((h ++ t) ++ begun) one.ready)
 
 pub returns-in-Err-clause-stops : goal.returns-in-Err-clause-stops
-returns-in-Err-clause-stops g c limits h ready =
+returns-in-Err-clause-stops g c limits h t ready =
     let setup = setup_of g.T.Planner.means limits in
     let s = c.args.self.now.state in
     let moment = c.now-moment.result in
     let begun = entries.Moment moment ∷ [] in
     let at = c.now-moment.ensures.value ∙ ap (λ (k : Kept). now_of k.state c.args.clock) c.self.view_is in
-    let rise = c.append.ensures.stays.shelf_faults in
-    elim (c.in-Err.ensures.declines setup h ready) [
-      | inl disk ↦ inl disk
-      | inr declined ↦ inr (
-        [],
-        stops-along setup _ _ h _ _ _ (turn-entries setup s (after_entries setup s begun) c.args.clock moment [] c.requires at refl)
-            (stops-more setup _ _ h begun _ _ (stops-first setup _ _ h begun _ declined)),
-        omega (arith, rise),
-      )
-    ]
+    let rise = c.begin_turn.ensures.stays.shelf_faults in (
+      [],
+      turn-stops-along setup _ _ _ h t _ _ _ (turn-entries setup s (after_entries setup s begun) c.args.clock moment [] c.requires at refl)
+          (turn-stops-more setup _ _ _ h t begun _ _ (c.in-Err.ensures.stops limits h t ready)),
+      omega (arith, rise),
+    )

@@ -8,7 +8,7 @@ use Rattle.hub_core.specs.declared.limits.Limits.{Limits}
 use Rattle.hub_core.specs.Setup.{setup_of}
 use Rattle.hub_core.specs.Standing.{Standing, state_after, is_lawful}
 use Rattle.queue_store.proofs.Opening.{lawful_next, replayed_more, replayed_all, log_fault, memory_fault, walked_more, stopped, stopped_unlawful}
-use Rattle.queue_store.proofs.Stepping.{standing-limits}
+use Rattle.queue_store.proofs.Adding.{standing-limits}
 use Rattle.queue_store.proofs.hub.opening.replay.Goals as goal
 
 pub returns-in_err-entry-clause-never : goal.returns-in_err-entry-clause-never
@@ -29,6 +29,7 @@ loop-state-preserved g c =
     record {
       stays = stays_more s0 s1 s2 inv.stays c.next.ensures.stays;
       most = (let kept : c.next.new.self.most ≡ c.loop-state.log.most = search rules in kept ∙ inv.most);
+      pending = (let kept : c.next.new.self.pending ≡ c.loop-state.log.pending = search rules in kept ∙ inv.pending);
       reads = λ honest. reads_more s0 s1 s2 (inv.reads honest) (c.next.ensures.reads (stays_honest s0 s1 inv.stays honest));
       read = λ h honest read.
           let far = inv.read h honest read in

@@ -13,6 +13,7 @@ invariant-loop-state g l =
     record {
       stays : Stays s0 s;
       most : l.log.most ≡ l.fn.log.most;
+      pending : l.log.pending ≡ l.fn.log.pending;
       reads : IsTrue s0.honest → Reads s0 s;
       read : (h : List Entry) → IsTrue s0.honest → IsRead s0.image.file h [] l.fn.log → Replayed (setup_of g.T.Planner.means l.fn.limits) s0.image.file h l.log l.state;
       walked : IsTrue s0.honest → IsHeld s0.image.file l.fn.log → Begins s0.image.file [] l.fn.log.place → Walked (setup_of g.T.Planner.means l.fn.limits) s0.image.file l.log l.state;

@@ -1,18 +1,38 @@
-use Rattle.std.proofs.Common.{refl, ap, sym, subst, Err}
-use Rattle.mail_plan.specs.declared.intake.IntakeFault.{IntakeFault}
-use Rattle.queue_store.specs.Office.{Counts}
-use Rattle.queue_store.proofs.Stepping.{counts_err}
+use Rattle.std.proofs.Common.{refl, ap, Ok, Err}
 use Rattle.queue_store.proofs.office.LocalOfficeIntake.next_number.Goals as goal
 
 pub returns-in-Err-clause-gives : goal.returns-in-Err-clause-gives
-returns-in-Err-clause-gives g c =
-    let s = g.P.Plant.state c.args.self.now.plant.now in
-    let s' = g.P.Plant.state c.next_number.new.plant in (
-      refl,
-      refl,
-      record {
-        does = subst (λ (e : IntakeFault). Counts s c.args.self.now.hub.now (Err e) s' c.next_number.new.self) (sym c.intake_fault.ensures)
-            (counts_err s s' c.args.self.now.hub.now c.next_number.new.self c.in-Err.fault c.in-Err.ensures.number (λ disk. c.in-Err.ensures.cause (ap Err disk)));
-        stays = c.next_number.ensures.stays;
-      },
-    )
+returns-in-Err-clause-gives g c = (
+  refl,
+  refl,
+  record {
+    does = record {
+      told = Err c.in-Err.fault;
+      is_told = ap Err c.intake_fault.ensures;
+      number = tt;
+      cause = c.in-Err.ensures.cause;
+      opened = λ limits h t stands. tt;
+      failed = c.in-Err.ensures.failed;
+      moments = c.next_number.ensures.any_moment;
+    };
+    stays = c.next_number.ensures.stays;
+  },
+)
+
+pub returns-in-Ok-clause-gives : goal.returns-in-Ok-clause-gives
+returns-in-Ok-clause-gives g c = (
+  refl,
+  refl,
+  record {
+    does = record {
+      told = Ok c.in-Ok.number;
+      is_told = refl;
+      number = c.in-Ok.ensures.number;
+      cause = c.in-Ok.ensures.cause;
+      opened = c.in-Ok.ensures.opened;
+      failed = λ limits h t stands. tt;
+      moments = c.next_number.ensures.any_moment;
+    };
+    stays = c.next_number.ensures.stays;
+  },
+)

@@ -1,19 +1,24 @@
-use Rattle.std.proofs.Common.{refl, ap, sym, subst, Err}
-use Rattle.mail_plan.specs.declared.intake.IntakeFault.{IntakeFault}
-use Rattle.queue_store.specs.Office.{Submits}
-use Rattle.queue_store.proofs.Stepping.{submits_err}
+use Rattle.std.proofs.Common.{refl, ap, Ok, Err}
 use Rattle.queue_store.proofs.office.LocalOfficeIntake.submit.Goals as goal
 
 pub returns-in-Err-clause-gives : goal.returns-in-Err-clause-gives
 returns-in-Err-clause-gives g c =
-    let s = g.P.Plant.state c.args.self.now.plant.now in
-    let s' = g.P.Plant.state c.submit.new.plant in
-    let hub = c.args.self.now.hub.now in (
+    let all = c.in-Err.ensures.settled in (
       refl,
       refl,
       record {
-        does = subst (λ (e : IntakeFault). Submits s hub c.args.submission c.args.clock (Err e) s' c.submit.new.self) (sym c.intake_fault.ensures)
-            (submits_err s s' hub c.submit.new.self c.args.submission c.args.clock c.in-Err.fault c.in-Err.ensures.declines (λ disk. c.in-Err.ensures.cause (ap Err disk)));
-        stays = c.submit.ensures.stays;
+        does = record { told = Err c.in-Err.fault; is_told = ap Err c.intake_fault.ensures; mid = all.0; keeps = all.1; accepted = tt; cause = c.in-Err.ensures.cause; leads = all.3 };
+        stays = c.submit_settled.ensures.stays;
+      },
+    )
+
+pub returns-in-Ok-clause-gives : goal.returns-in-Ok-clause-gives
+returns-in-Ok-clause-gives g c =
+    let all = c.in-Ok.ensures.settled in (
+      refl,
+      refl,
+      record {
+        does = record { told = Ok c.in-Ok.accepted; is_told = refl; mid = all.0; keeps = all.1; accepted = all.2; cause = c.in-Ok.ensures.cause; leads = all.3 };
+        stays = c.submit_settled.ensures.stays;
       },
     )
