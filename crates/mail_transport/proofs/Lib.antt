@@ -1,3 +1,4 @@
 pub mod Telling
+pub mod Stepping
 pub mod Running
 pub mod Never

@@ -1,3 +1,4 @@
 pub mod HubSetup
+pub mod Points
 pub mod Answers
 pub mod Run

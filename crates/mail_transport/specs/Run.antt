@@ -1,10 +1,10 @@
 -- What the commands do.
-use Rattle.std.specs.Prelude.{◌≡◌, ◌⊎◌, ℕ, Bool, false, List, [], ◌∷◌, ◌++◌, Option, codes, bytes_eq}
-use Rattle.std.specs.Io.KnownBytes.{Consumes}
-use Rattle.port_io.specs.Causes.{RoseBy}
+use Rattle.std.specs.Prelude.{◌≡◌, ◌⊎◌, ◌+◌, ℕ, Bool, false, List, [], ◌∷◌, ◌++◌, Option, codes, bytes_eq}
+use Rattle.std.specs.Io.KnownBytes.{Appends, Consumes}
+use Rattle.port_io.specs.Causes.{Rose, RoseBy}
 use Rattle.port_io.specs.Told.{Gave}
 use Rattle.mail_plan.specs.declared.entry.Entry.{Entry}
-use Rattle.plant_dev.specs.Disk.{Image}
+use Rattle.plant_dev.specs.Disk.{State, LeavesOnly}
 use Rattle.hub_core.specs.Standing.{Standing, standing}
 use Rattle.queue_store.specs.declared.fault.HubFault.{HubFault}
 use Rattle.queue_store.specs.declared.fault.HubFault.TheVariants as faults
@@ -19,7 +19,8 @@ use Rattle.org_check.specs.declared.checking.CheckEnd.TheVariants as checks
 use Rattle.org_check.specs.Check.{Checks}
 use Rattle.mail_transport.specs.declared.status.Status.{Status}
 use Rattle.mail_transport.specs.declared.status.Status.TheVariants as statuses
-use Rattle.mail_transport.specs.Answers.{HistoryGives}
+use Rattle.mail_transport.specs.Points.{Point, Trace, sure, IsFound, IsLeftAt, IsLeftWithin, IsLeftBetween, IsSettledAt}
+use Rattle.mail_transport.specs.Answers.{RunGives}
 use Rattle.mail_transport.specs.HubSetup.{hub_setup}
 
 -- All is categorised, and then comes a turn at this clock, in which the puts went so.
@@ -27,29 +28,51 @@ abbrev pub entries_finish : Standing → ℕ → List Bool → List Entry
 entries_finish s clock puts =
     entries_categorise hub_setup s ++ entries_turn hub_setup (after_entries hub_setup s (entries_categorise hub_setup s)) clock puts
 
--- All was categorised and a turn was made: the image stands for the history with their entries, each of which had room
--- in the log, and as many puts failed as the count of the shelf's faults rose at most.
-pub record Turned (h : List Entry) (then now : ℕ → Option ℕ) (faults faults' : ℕ) (image : Image) : Type 0 where
+-- All was categorised and a turn was made: their entries are settled behind the history that was found, each had room in the log, and
+-- as many puts failed as the count of the shelf's faults rose at most.
+pub record Turned (p p' : Point) (then now : ℕ → Option ℕ) (faults faults' : ℕ) : Type 0 where
+  pub found : List Entry
+  pub is_found : IsFound p found
   pub turn : ℕ
   pub puts : List Bool
   pub clock : Gave then now (turn ∷ [])
-  pub stands : Stands hub_setup image (h ++ entries_finish (standing hub_setup h) turn puts)
-  pub fits : Fits hub_setup.limits.log h (entries_finish (standing hub_setup h) turn puts)
+  pub fits : Fits hub_setup.limits.log found (entries_finish (standing hub_setup found) turn puts)
   pub missed : RoseBy (misses puts) faults faults'
+  pub end : p' ≡ sure (found ++ entries_finish (standing hub_setup found) turn puts)
 
--- Categorising or the turn was cut short: the image stands for the history with some of their entries, and the others
--- are left for a reason.
-pub record CutShort (h : List Entry) (then now : ℕ → Option ℕ) (faults faults' : ℕ) (image : Image) (Why : List Entry → List Entry → Type 0) : Type 0 where
+-- Categorising or the turn was cut short: some of their entries are settled behind the history that was found, and the others are left
+-- for a reason.
+pub record CutShort (p p' : Point) (then now : ℕ → Option ℕ) (faults faults' : ℕ) (Why : List Entry → List Entry → Type 0) : Type 0 where
+  pub found : List Entry
+  pub is_found : IsFound p found
   pub turn : ℕ
   pub puts : List Bool
   pub added : List Entry
   pub left : List Entry
   pub clock : Gave then now [] ⊎ Gave then now (turn ∷ [])
-  pub whole : entries_finish (standing hub_setup h) turn puts ≡ added ++ left
-  pub stands : Stands hub_setup image (h ++ added)
-  pub fits : Fits hub_setup.limits.log h added
-  pub why : Why (h ++ added) left
+  pub whole : entries_finish (standing hub_setup found) turn puts ≡ added ++ left
+  pub fits : Fits hub_setup.limits.log found added
+  pub why : Why (found ++ added) left
   pub missed : RoseBy (misses puts) faults faults'
+  pub end : p' ≡ sure (found ++ added)
+
+-- A disk fault broke it off: of its entries some are settled, some are in doubt, and the others are lost.
+pub record BrokeOff (p p' : Point) (then now : ℕ → Option ℕ) (faults faults' : ℕ) : Type 0 where
+  pub found : List Entry
+  pub is_found : IsFound p found
+  pub turn : ℕ
+  pub puts : List Bool
+  pub added : List Entry
+  pub lost : List Entry
+  pub clock : Gave then now [] ⊎ Gave then now (turn ∷ [])
+  pub settled : p'.settled ≡ found ++ added
+  pub whole : found ++ entries_finish (standing hub_setup found) turn puts ≡ (p'.settled ++ p'.doubtful) ++ lost
+  pub missed : RoseBy (misses puts) faults faults'
+
+-- The log, which a disk fault had broken off, could not be opened again.
+pub record NotBegun (p p' : Point) (then now : ℕ → Option ℕ) : Type 0 where
+  pub clock : Gave then now []
+  pub end : p' ≡ p
 
 -- memory ran out
 abbrev pub Starved : List Entry → List Entry → Type 0
@@ -59,12 +82,13 @@ Starved h left = Unit {0}
 abbrev pub Overfull : List Entry → List Entry → Type 0
 Overfull h left = (octets : ℕ) × IsFull hub_setup.limits.log h left octets
 
--- how a session ended that was read to its end or to QUIT, by the status of what followed
-abbrev pub Finishes : List Entry → (ℕ → Option ℕ) → (ℕ → Option ℕ) → ℕ → ℕ → Image → Status → Type 0
-Finishes h then now faults faults' image statuses.Done = Turned h then now faults faults' image
-Finishes h then now faults faults' image statuses.NoMemory = CutShort h then now faults faults' image Starved
-Finishes h then now faults faults' image statuses.LogFull = CutShort h then now faults faults' image Overfull
-Finishes h then now faults faults' image status = ⊥
+-- what followed a session that was read to its end or to QUIT, by the status
+abbrev pub Finishes : Point → Point → (ℕ → Option ℕ) → (ℕ → Option ℕ) → ℕ → ℕ → Status → Type 0
+Finishes p p' then now faults faults' statuses.Done = Turned p p' then now faults faults'
+Finishes p p' then now faults faults' statuses.NoMemory = NotBegun p p' then now ⊎ CutShort p p' then now faults faults' Starved
+Finishes p p' then now faults faults' statuses.LogFull = CutShort p p' then now faults faults' Overfull
+Finishes p p' then now faults faults' statuses.DiskFault = NotBegun p p' then now ⊎ BrokeOff p p' then now faults faults'
+Finishes p p' then now faults faults' status = ⊥
 
 -- The status of a call that the hub refused. Only a submission meets a full queue, and no command has an organisation or decides
 -- yet.
@@ -91,25 +115,58 @@ status_of (ends.NotALog at) = statuses.NotALog
 status_of ends.DeskFull = statuses.NoMemory
 status_of ends.TooLong = statuses.TooLong
 
--- Nothing follows: the image stands for the history that the session left.
-pub record Stops (h : List Entry) (then now : ℕ → Option ℕ) (image : Image) (end : SessionEnd) (status : Status) : Type 0 where
+-- Nothing follows.
+pub record Stops (p p' : Point) (then now : ℕ → Option ℕ) (end : SessionEnd) (status : Status) : Type 0 where
   pub status_is : status ≡ status_of end
   pub clock : Gave then now []
-  pub stands : Stands hub_setup image h
+  pub same : p' ≡ p
 
 -- what follows a session that ended so
-abbrev pub Ends : SessionEnd → List Entry → (ℕ → Option ℕ) → (ℕ → Option ℕ) → ℕ → ℕ → Image → Status → Type 0
-Ends ends.Quit h then now faults faults' image status = Finishes h then now faults faults' image status
-Ends ends.EndOfInput h then now faults faults' image status = Finishes h then now faults faults' image status
-Ends end h then now faults faults' image status = Stops h then now image end status
+abbrev pub Ends : SessionEnd → Point → Point → (ℕ → Option ℕ) → (ℕ → Option ℕ) → ℕ → ℕ → Status → Type 0
+Ends ends.Quit p p' then now faults faults' status = Finishes p p' then now faults faults' status
+Ends ends.EndOfInput p p' then now faults faults' status = Finishes p p' then now faults faults' status
+Ends end p p' then now faults faults' status = Stops p p' then now end status
 
--- A whole run of the command from a history: a session, whose submissions the history answers, and what follows it.
-pub record Ran (start : List Entry) (old now : ℕ → Option ℕ) (taken taken' before left : Option (List ℕ)) (faults faults' : ℕ) (image : Image) (status : Status) : Type 0 where
+-- whether a status tells a disk fault
+abbrev pub fault_told : Status → ℕ
+fault_told statuses.DiskFault = 1
+fault_told status = 0
+
+-- What a part of a run leaves, by its status: the plant is settled for its last point, in which nothing is in doubt but what a disk
+-- fault left, now or before.
+pub record Leaves (p p' : Point) (s s' : State) (status : Status) : Type 0 where
+  pub settled : IsSettledAt p' s'
+  pub calm : (p'.doubtful ≡ []) ⊎ ((p' ≡ p) ⊎ (status ≡ statuses.DiskFault))
+  pub moments : LeavesOnly s s' (λ c. IsLeftAt p c ⊎ IsLeftBetween p p' c)
+
+-- A run of the command from what the plant stood for: the log was opened, a session was spoken, whose submissions the history answers,
+-- and then came what follows it.
+pub record Ran (start : Point) (s s' : State) (old now : ℕ → Option ℕ) (taken taken' before left : Option (List ℕ)) (status : Status) : Type 0 where
+  pub found : List Entry
+  pub is_found : IsFound start found
+  pub reads : Stands hub_setup s.image found
   pub end : SessionEnd
-  pub h : List Entry
+  pub trace : Trace
   pub then : ℕ → Option ℕ
-  pub spoke : Spoke HistoryGives start h old then taken taken' before left end
-  pub rest : Ends end h then now faults faults' image status
+  pub spoke : Spoke RunGives (record { now = sure found; before = start ∷ []; faults = 0 }) trace old then taken taken' before left end
+  pub last : Point
+  pub rest : Ends end trace.now last then now s.shelf_faults s'.shelf_faults status
+  -- The plant is settled for the last point, where nothing is in doubt unless a disk fault was counted.
+  pub settled : IsSettledAt last s'
+  pub calm : (last.doubtful ≡ []) ⊎ Rose s.disk_faults s'.disk_faults
+  -- Whatever a crash leaves at any moment of the call stands for a point that the run has passed, or for one on the way to the last.
+  pub moments : LeavesOnly s s' (λ c. IsLeftWithin trace c ⊎ IsLeftBetween trace.now last c)
+  -- Each fault that was told was counted.
+  pub told : RoseBy (trace.faults + fault_told status) s.disk_faults s'.disk_faults
+
+-- The log could not be opened: the disk failed, or memory ran out. The plant stands for what it stood for, and nothing was read or said.
+pub record NotOpened (start : Point) (s s' : State) (old now : ℕ → Option ℕ) (taken taken' before left : Option (List ℕ)) (status : Status) : Type 0 where
+  pub why : ((status ≡ statuses.DiskFault) × Rose s.disk_faults s'.disk_faults) ⊎ (status ≡ statuses.NoMemory)
+  pub settled : IsSettledAt start s'
+  pub moments : LeavesOnly s s' (IsLeftAt start)
+  pub clock : Gave old now []
+  pub sink : Appends taken taken' []
+  pub source : Consumes before left []
 
 -- the words are the command
 abbrev pub is_session : List (List ℕ) → Bool

@@ -1,11 +1,9 @@
 // The whole program over any source, sink, plant and clock.
-ghost use Rattle.std.specs.Prelude.{◌≡◌, ◌⊎◌, List, true, false, map, IsTrue};
+ghost use Rattle.std.specs.Prelude.{◌≡◌, ◌⊎◌, true, false, map, IsTrue};
 ghost use Rattle.std.specs.Io.KnownBytes.{Appends};
 ghost use Rattle.port_io.specs.Causes.{Rose};
-ghost use Rattle.mail_plan.specs.declared.entry.Entry.{Entry};
-ghost use Rattle.mail_transport.specs.HubSetup.{hub_setup};
-ghost use Rattle.queue_store.specs.Stands.{Stands};
-ghost use Rattle.mail_transport.specs.Run.{Checked, Ran, is_check, is_session, usage_text};
+ghost use Rattle.mail_transport.specs.Points.{Point, IsSettledAt};
+ghost use Rattle.mail_transport.specs.Run.{Checked, NotOpened, Ran, is_check, is_session, usage_text};
 
 use crate::check::{is_check, run_check};
 use crate::session::{is_session, run_session};
@@ -30,19 +28,20 @@ pub fn transport<S: Source, K: Sink, P: Plant, C: Clock>(
     plant: &mut P,
     clock: &mut C,
 ) -> Status
-    // Where no disk fault is counted, a session over an honest plant that stands for a history does what the definitions
-    // say from there, and the plant stands for the history that it leaves.
-    ensures session { (h : List Entry) → is_session (map (λ word. word.now) words.now) ≡ true → IsTrue (P.state plant.old).honest → Stands hub_setup (P.state plant.old).image h →
-        (Rose (P.state plant.old).disk_faults (P.state plant.new).disk_faults → ⊥) →
-        (result ≡ Status.NoMemory) ⊎ Ran h (C.moments clock.old) (C.moments clock.new) (K.taken sink.old) (K.taken sink.new) (S.left source.old) (S.left source.new)
-        (P.state plant.old).shelf_faults (P.state plant.new).shelf_faults (P.state plant.new).image result }
+    // A session over an honest plant that stands for a history does what the definitions say from there, whatever the disk does:
+    // what was acknowledged is settled, and whatever a crash leaves at any moment of the call stands for a point of the run. Or the
+    // log could not be opened, and all is as it was.
+    ensures session { (start : Point) → is_session (map (λ word. word.now) words.now) ≡ true → IsTrue (P.state plant.old).honest → IsSettledAt start (P.state plant.old) →
+        NotOpened start (P.state plant.old) (P.state plant.new) (C.moments clock.old) (C.moments clock.new) (K.taken sink.old) (K.taken sink.new) (S.left source.old) (S.left source.new) result
+        ⊎ Ran start (P.state plant.old) (P.state plant.new) (C.moments clock.old) (C.moments clock.new) (K.taken sink.old) (K.taken sink.new) (S.left source.old) (S.left source.new) result }
     // Nor is a log told as none where the plant stands for a history.
-    ensures log { (h : List Entry) → IsTrue (P.state plant.old).honest → Stands hub_setup (P.state plant.old).image h →
-        (Rose (P.state plant.old).disk_faults (P.state plant.new).disk_faults → ⊥) → result ≡ Status.NotALog → ⊥ }
+    ensures log { (start : Point) → IsTrue (P.state plant.old).honest → IsSettledAt start (P.state plant.old) → result ≡ Status.NotALog → ⊥ }
     // A check says what its definition says.
     ensures check { is_check (map (λ word. word.now) words.now) ≡ true →
         Checked (S.left source.old) (S.left source.new) (K.taken sink.old) (K.taken sink.new) result }
-    ensures untouched { is_session (map (λ word. word.now) words.now) ≡ false → plant.new ≡ plant.old }
+    // Other words touch no plant and no clock, and words that are no command read nothing.
+    ensures untouched { is_session (map (λ word. word.now) words.now) ≡ false → (plant.new ≡ plant.old) × (clock.new ≡ clock.old) }
+    ensures unread { is_session (map (λ word. word.now) words.now) ≡ false → is_check (map (λ word. word.now) words.now) ≡ false → source.new ≡ source.old }
     ensures usage { result ≡ Status.Usage → (is_session (map (λ word. word.now) words.now) ≡ false) × (is_check (map (λ word. word.now) words.now) ≡ false) }
     ensures usage_text { result ≡ Status.Usage → Appends (K.taken sink.old) (K.taken sink.new) usage_text }
     ensures other { is_session (map (λ word. word.now) words.now) ≡ false → is_check (map (λ word. word.now) words.now) ≡ false → (result ≡ Status.Usage) ⊎ (result ≡ Status.SinkFault) }

@@ -1,14 +1,11 @@
 // The command `session` over any source, sink, plant and clock.
-ghost use Rattle.std.specs.Prelude.{◌≡◌, ◌⊎◌, List, map, IsTrue};
+ghost use Rattle.std.specs.Prelude.{◌≡◌, ◌⊎◌, map, IsTrue};
 ghost use Rattle.port_io.specs.Causes.{Rose};
-ghost use Rattle.mail_plan.specs.declared.entry.Entry.{Entry};
 ghost use Rattle.plant_dev.specs.Disk.{Stays};
-ghost use Rattle.mail_transport.specs.HubSetup.{hub_setup};
-ghost use Rattle.queue_store.specs.Stands.{Stands};
-ghost use Rattle.queue_store.specs.Ready.{IsReady};
 ghost use Rattle.smtp_front.specs.Sessions.{Spoke};
-ghost use Rattle.mail_transport.specs.Answers.{HistoryGives};
-ghost use Rattle.mail_transport.specs.Run.{Ends, Finishes, Ran, is_session};
+ghost use Rattle.mail_transport.specs.Points.{Point, Trace, StandsAt, RunsAt, RunsOn, IsSettledAt};
+ghost use Rattle.mail_transport.specs.Answers.{RunGives};
+ghost use Rattle.mail_transport.specs.Run.{Ends, Finishes, Leaves, NotOpened, Ran, is_session};
 
 use crate::status::{Status, ended, fault_status};
 use hub_core::Limits;
@@ -28,10 +25,9 @@ fn speak<P: Plant, S: Source, K: Sink, C: Clock>(
     clock: &mut C,
 ) -> SessionEnd
     ensures same { (office.new.hub.ghost_name ≡ office.old.hub.ghost_name) × (office.new.plant.ghost_name ≡ office.old.plant.ghost_name) }
-    ensures spoke { (h : List Entry) → IsReady hub_setup (P.state office.old.plant.now) office.old.hub.now h →
-        (Rose (P.state office.old.plant.now).disk_faults (P.state office.new.plant.now).disk_faults → ⊥) →
-        (h' : List Entry) × Spoke HistoryGives h h' (C.moments clock.old) (C.moments clock.new) (K.taken sink.old) (K.taken sink.new) (S.left source.old) (S.left source.new) result
-        × IsReady hub_setup (P.state office.new.plant.now) office.new.hub.now h' }
+    ensures spoke { (t : Trace) → RunsAt (P.state office.old.plant.now) (P.state office.old.plant.now) office.old.hub.now t →
+        (t' : Trace) × Spoke RunGives t t' (C.moments clock.old) (C.moments clock.new) (K.taken sink.old) (K.taken sink.new) (S.left source.old) (S.left source.new) result
+        × RunsOn (P.state office.old.plant.now) (P.state office.new.plant.now) office.new.hub.now t t' }
     ensures stays { Stays (P.state office.old.plant.now) (P.state office.new.plant.now) }
     ensures source { result ≡ SessionEnd.SourceFault → Rose (S.faults source.old) (S.faults source.new) }
     ensures sink { result ≡ SessionEnd.SinkFault → Rose (K.faults sink.old) (K.faults sink.new) }
@@ -48,9 +44,9 @@ fn converse<P: Plant, S: Source, K: Sink, C: Clock>(
     sink: &mut K,
     clock: &mut C,
 ) -> SessionEnd
-    ensures spoke { (h : List Entry) → IsReady hub_setup (P.state plant.old) hub.old h → (Rose (P.state plant.old).disk_faults (P.state plant.new).disk_faults → ⊥) →
-        (h' : List Entry) × Spoke HistoryGives h h' (C.moments clock.old) (C.moments clock.new) (K.taken sink.old) (K.taken sink.new) (S.left source.old) (S.left source.new) result
-        × IsReady hub_setup (P.state plant.new) hub.new h' }
+    ensures spoke { (t : Trace) → RunsAt (P.state plant.old) (P.state plant.old) hub.old t →
+        (t' : Trace) × Spoke RunGives t t' (C.moments clock.old) (C.moments clock.new) (K.taken sink.old) (K.taken sink.new) (S.left source.old) (S.left source.new) result
+        × RunsOn (P.state plant.old) (P.state plant.new) hub.new t t' }
     ensures stays { Stays (P.state plant.old) (P.state plant.new) }
     ensures source { result ≡ SessionEnd.SourceFault → Rose (S.faults source.old) (S.faults source.new) }
     ensures sink { result ≡ SessionEnd.SinkFault → Rose (K.faults sink.old) (K.faults sink.new) }
@@ -66,8 +62,9 @@ fn finish<P: Plant, C: Clock>(
     plant: &mut P,
     clock: &mut C,
 ) -> Status
-    ensures finishes { (h : List Entry) → IsReady hub_setup (P.state plant.old) hub.old h → (Rose (P.state plant.old).disk_faults (P.state plant.new).disk_faults → ⊥) →
-        Finishes h (C.moments clock.old) (C.moments clock.new) (P.state plant.old).shelf_faults (P.state plant.new).shelf_faults (P.state plant.new).image result }
+    ensures finishes { (p : Point) → StandsAt (P.state plant.old) hub.old p → (p' : Point)
+        × Finishes p p' (C.moments clock.old) (C.moments clock.new) (P.state plant.old).shelf_faults (P.state plant.new).shelf_faults result
+        × Leaves p p' (P.state plant.old) (P.state plant.new) result }
     ensures stays { Stays (P.state plant.old) (P.state plant.new) }
     ensures disk { result ≡ Status.DiskFault → Rose (P.state plant.old).disk_faults (P.state plant.new).disk_faults }
     ensures source { result ≡ Status.SourceFault → ⊥ }
@@ -93,8 +90,9 @@ fn follow<P: Plant, C: Clock>(
     clock: &mut C,
     end: SessionEnd,
 ) -> Status
-    ensures ends { (h : List Entry) → IsReady hub_setup (P.state plant.old) hub.old h → (Rose (P.state plant.old).disk_faults (P.state plant.new).disk_faults → ⊥) →
-        Ends end h (C.moments clock.old) (C.moments clock.new) (P.state plant.old).shelf_faults (P.state plant.new).shelf_faults (P.state plant.new).image result }
+    ensures ends { (p : Point) → StandsAt (P.state plant.old) hub.old p → (p' : Point)
+        × Ends end p p' (C.moments clock.old) (C.moments clock.new) (P.state plant.old).shelf_faults (P.state plant.new).shelf_faults result
+        × Leaves p p' (P.state plant.old) (P.state plant.new) result }
     ensures stays { Stays (P.state plant.old) (P.state plant.new) }
     ensures disk { result ≡ Status.DiskFault → Rose (P.state plant.old).disk_faults (P.state plant.new).disk_faults }
     ensures source { result ≡ Status.SourceFault → end ≡ SessionEnd.SourceFault }
@@ -116,11 +114,10 @@ pub fn run_session<P: Plant, S: Source, K: Sink, C: Clock>(
     plant: &mut P,
     clock: &mut C,
 ) -> Status
-    ensures ran { (h : List Entry) → IsTrue (P.state plant.old).honest → Stands hub_setup (P.state plant.old).image h → (Rose (P.state plant.old).disk_faults (P.state plant.new).disk_faults → ⊥) →
-        (result ≡ Status.NoMemory) ⊎ Ran h (C.moments clock.old) (C.moments clock.new) (K.taken sink.old) (K.taken sink.new) (S.left source.old) (S.left source.new)
-        (P.state plant.old).shelf_faults (P.state plant.new).shelf_faults (P.state plant.new).image result }
-    ensures log { (h : List Entry) → IsTrue (P.state plant.old).honest → Stands hub_setup (P.state plant.old).image h → (Rose (P.state plant.old).disk_faults (P.state plant.new).disk_faults → ⊥) →
-        result ≡ Status.NotALog → ⊥ }
+    ensures ran { (start : Point) → IsTrue (P.state plant.old).honest → IsSettledAt start (P.state plant.old) →
+        NotOpened start (P.state plant.old) (P.state plant.new) (C.moments clock.old) (C.moments clock.new) (K.taken sink.old) (K.taken sink.new) (S.left source.old) (S.left source.new) result
+        ⊎ Ran start (P.state plant.old) (P.state plant.new) (C.moments clock.old) (C.moments clock.new) (K.taken sink.old) (K.taken sink.new) (S.left source.old) (S.left source.new) result }
+    ensures log { (start : Point) → IsTrue (P.state plant.old).honest → IsSettledAt start (P.state plant.old) → result ≡ Status.NotALog → ⊥ }
     ensures disk { result ≡ Status.DiskFault → Rose (P.state plant.old).disk_faults (P.state plant.new).disk_faults }
     ensures source { result ≡ Status.SourceFault → Rose (S.faults source.old) (S.faults source.new) }
     ensures sink { result ≡ Status.SinkFault → Rose (K.faults sink.old) (K.faults sink.new) }

@@ -55,6 +55,7 @@ impl Status {
 pub fn fault_status(fault: HubFault) -> Status
     ensures value { result ≡ fault_status fault }
     ensures memory { fault ≡ HubFault.NoMemory → result ≡ Status.NoMemory }
+    ensures disk_fault { fault ≡ HubFault.DiskFault → result ≡ Status.DiskFault }
     ensures disk { result ≡ Status.DiskFault → fault ≡ HubFault.DiskFault }
     ensures source { result ≡ Status.SourceFault → ⊥ }
     ensures sink { result ≡ Status.SinkFault → ⊥ }
