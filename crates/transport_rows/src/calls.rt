@@ -35,6 +35,8 @@ pub fn organise(
     let mut hub = open(alloc, plant, limits)?;
     let (directory, rules) = texts;
     let answer = hub.organise(alloc, plant, some(directory), some(rules));
+    let opening = hub.opening();
+    hub.settle(plant, opening)?;
     let line = format!(in alloc; "{answer:?}")?;
     out.line(line.as_str())
 }
@@ -53,7 +55,7 @@ pub fn submit(
     let Ok(submission) = Submission::new(alloc, Origin::Smtp, None, keys, message) else {
         return Err(Fault::NoRow);
     };
-    let answer = hub.submit(alloc, plant, submission, 7);
+    let answer = hub.submit_settled(alloc, plant, submission, 7);
     let line = format!(in alloc; "{answer:?}")?;
     out.line(line.as_str())
 }
@@ -99,6 +101,8 @@ pub fn commit(
         return out.line("nothing waits");
     };
     let end = commit_by(alloc, &mut hub, plant, task, directory)?;
+    let opening = hub.opening();
+    hub.settle(plant, opening)?;
     let line = format!(in alloc; "{end:?}")?;
     out.line(line.as_str())
 }
