@@ -86,7 +86,7 @@ synced() {
 }
 
 printf '%-40s %8s %10s %12s %14s\n' load messages seconds messages/s octets/s
-# A message to one recipient needs eight syncs: two for each of its three entries, and two for its item.
+# The row of syncs alone says how many of them this disk makes in a second; bench/syncs.py counts how many a message needs.
 timed "messages of 1 KiB" small "$messages"
 synced "syncs of this disk" $((8 * messages))
 timed "a message of 1 MiB" large 1
