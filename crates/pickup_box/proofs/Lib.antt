@@ -1,0 +1,7 @@
+pub mod Trimming
+pub mod Splitting
+pub mod Cutting
+pub mod Addressing
+pub mod Filing
+pub mod Joining
+pub mod Naming

@@ -1,0 +1,24 @@
+// What holds of pickup files and their names.
+ghost use Rattle.std.specs.Prelude.{◌≡◌, ℕ, List, Some};
+ghost use Rattle.std.specs.List.{join_with_byte};
+ghost use Rattle.pickup_box.specs.Addresses.{pieces, AreWhole};
+ghost use Rattle.pickup_box.specs.FileNames.{begun_stem, new_stem, IsBegunName, IsNewName};
+ghost use Rattle.pickup_box.specs.declared.addresses.Inside.TheVariants as inside;
+
+/// The pieces of a value are the value with a comma between each two, and none of them is split again.
+pub fn pieces_split_the_value()
+    ensures joined { (value : List ℕ) → join_with_byte 44 (pieces inside.Nothing value) ≡ value }
+    ensures whole { (value : List ℕ) → AreWhole inside.Nothing (pieces inside.Nothing value) }
+{}
+
+/// A file was begun exactly where its name is a stem, a dot, a decimal number without leading zeros and `.tmp`.
+pub fn begun_names_are_told()
+    ensures found { (name stem : List ℕ) → begun_stem name ≡ Some stem → IsBegunName name stem }
+    ensures only { (name stem : List ℕ) → IsBegunName name stem → begun_stem name ≡ Some stem }
+{}
+
+/// A file is new exactly where its name is a stem and `.eml`.
+pub fn new_names_are_told()
+    ensures found { (name stem : List ℕ) → new_stem name ≡ Some stem → IsNewName name stem }
+    ensures only { (name stem : List ℕ) → IsNewName name stem → new_stem name ≡ Some stem }
+{}
