@@ -13,6 +13,13 @@
 //!   message, and prints its status.
 //! - `submit` hands a message to the hub, `commit` plans what waits by the organisation of the lines, `decide APPROVAL KEY
 //!   VERDICT` decides, categorises and makes a turn, and `turn` makes one. Each prints its answer.
+//! - `faults CALLS GAP,.. FOLDER..` runs the session of the lines over an empty plant, and prints how many messages were accepted
+//!   and the items of each folder. Then it runs it over an empty plant once for each of so many calls, for each gap: that call
+//!   fails, the next GAP - 1 don't, and then all do. What each of 16 crashes leaves is opened by a session without a message,
+//!   and each message that was told 250 is in each folder once, under its number. Then the session is run there again, without
+//!   a fault, and each folder has the items that it has where nothing failed, each once. It prints `once` for each call, or
+//!   what is otherwise, and at last whether the session has more calls. Each message goes to each of the folders, and no two
+//!   items have one text.
 //! - `folder KEY` prints a folder's items. A line of an item stands behind `|`, without its CR LF.
 //! - A line that is empty or begins with `#` is printed back.
 #![tactic(auto)]
@@ -20,6 +27,7 @@
 mod answer;
 mod calls;
 mod crowd;
+mod faults;
 mod mails;
 mod stage;
 

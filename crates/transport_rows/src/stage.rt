@@ -2,9 +2,10 @@
 use crate::answer::{Answer, Fault};
 use crate::calls::{add_folder, commit, decide, organise, submit, turn};
 use crate::crowd::add_crowd;
+use crate::faults::{Load, add_faults};
 use crate::mails::{dialogue, talk};
 use hub_core::Limits;
-use mail_names::Bytes;
+use mail_names::{Bytes, Key};
 use mail_transport::Status;
 use plant_dev::MemoryPlant;
 use std::alloc::Global;
@@ -35,6 +36,14 @@ fn limits(words: &str) -> Result<Limits, Fault> {
         epochs: number(epochs)?,
         ..Limits::usual()
     })
+}
+
+fn folders(alloc: Global, keys: &str) -> Result<Vec<Key>, Fault> {
+    let mut folders = Vec::new(alloc);
+    for key in keys.split_whitespace() {
+        folders.push(Key::read(alloc, key.as_bytes())?)?;
+    }
+    Ok(folders)
 }
 
 fn add_status(alloc: Global, status: Status, out: &mut Answer) -> Result<(), Fault> {
@@ -107,6 +116,18 @@ impl Stage {
         add_status(alloc, status, out)
     }
 
+    fn faults(&mut self, words: &str, out: &mut Answer) -> Result<(), Fault> {
+        let alloc = self.alloc;
+        let (calls, rest) = words.split_once(' ').unwrap_or((words, ""));
+        let (gaps, keys) = rest.split_once(' ').unwrap_or((rest, ""));
+        let load = Load {
+            moment: self.moment,
+            said: taken(alloc, &mut self.said)?,
+            folders: folders(alloc, keys)?,
+        };
+        add_faults(alloc, &load, number(calls)?, gaps, out)
+    }
+
     fn organise(&mut self, out: &mut Answer) -> Result<(), Fault> {
         let directory = taken(self.alloc, &mut self.directory)?;
         let rules = taken(self.alloc, &mut self.rules)?;
@@ -135,6 +156,7 @@ impl Stage {
             "commit" => self.commit(out),
             "decide" => decide(alloc, &mut self.plant, limits, rest, moment, out),
             "turn" => turn(alloc, &mut self.plant, limits, moment, out),
+            "faults" => self.faults(rest, out),
             "folder" => add_folder(alloc, &mut self.plant, rest, out),
             _ => Err(Fault::NoRow),
         }
