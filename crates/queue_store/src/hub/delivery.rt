@@ -22,7 +22,7 @@ use plant_dev::{Plant, ShelfFault};
 use std::alloc::Global;
 
 impl<T: Planner> Hub<T> {
-    ghost use Rattle.queue_store.specs.Calls.{after_entries, entries_at, entries_all, entries_categorise, entries_try, entries_tries, entries_trying, entries_turn, misses, IsDelivery};
+    ghost use Rattle.queue_store.specs.Calls.{after_entries, count_tried, entries_at, entries_all, entries_categorise, entries_try, entries_tries, entries_trying, entries_turn, misses, names_waiting, EachTried, IsDelivery};
 
     // Categorises a release, where it waits.
     fn categorise<P: Plant>(
@@ -161,7 +161,7 @@ impl<T: Planner> Hub<T> {
     ) -> Result<(), HubFault>
         ensures adds { (setup : Setup) (h t : List Entry) → AllByRecursion IsDelivery t → IsReady setup (P.state plant.old) self.old h t → OnOk result ((puts : List Bool)
             × Adds setup (P.state plant.old) (P.state plant.new) self.new h t (entries_tries setup self.old.state names.now puts)
-            × RoseBy (misses puts) (P.state plant.old).shelf_faults (P.state plant.new).shelf_faults) }
+            × EachTried (length names.now) puts (P.state plant.old).shelf_faults (P.state plant.new).shelf_faults) }
         ensures stops { (setup : Setup) (h t : List Entry) → AllByRecursion IsDelivery t → IsReady setup (P.state plant.old) self.old h t →
             IfErr result (λ e. (puts : List Bool)
             × FailsLater setup (P.state plant.old) (P.state plant.new) self.new h t (entries_tries setup self.old.state names.now puts) e
@@ -183,7 +183,7 @@ impl<T: Planner> Hub<T> {
     fn try_waiting<P: Plant>(&mut self, alloc: Global, plant: &mut P) -> Result<(), HubFault>
         ensures adds { (setup : Setup) (h t : List Entry) → AllByRecursion IsDelivery t → IsReady setup (P.state plant.old) self.old h t → OnOk result ((puts : List Bool)
             × Adds setup (P.state plant.old) (P.state plant.new) self.new h t (entries_trying setup self.old.state puts)
-            × RoseBy (misses puts) (P.state plant.old).shelf_faults (P.state plant.new).shelf_faults) }
+            × EachTried (length (names_waiting self.old.state)) puts (P.state plant.old).shelf_faults (P.state plant.new).shelf_faults) }
         ensures stops { (setup : Setup) (h t : List Entry) → AllByRecursion IsDelivery t → IsReady setup (P.state plant.old) self.old h t →
             IfErr result (λ e. (puts : List Bool)
             × FailsLater setup (P.state plant.old) (P.state plant.new) self.new h t (entries_trying setup self.old.state puts) e
@@ -203,7 +203,7 @@ impl<T: Planner> Hub<T> {
     fn try_settled<P: Plant>(&mut self, alloc: Global, plant: &mut P) -> Result<(), HubFault>
         ensures turns { (setup : Setup) (h : List Entry) → IsReady setup (P.state plant.old) self.old h [] → OnOk result ((puts : List Bool)
             × Turns setup (P.state plant.old) (P.state plant.new) self.new h [] (entries_trying setup self.old.state puts)
-            × RoseBy (misses puts) (P.state plant.old).shelf_faults (P.state plant.new).shelf_faults) }
+            × EachTried (length (names_waiting self.old.state)) puts (P.state plant.old).shelf_faults (P.state plant.new).shelf_faults) }
         ensures stops { (setup : Setup) (h : List Entry) → IsReady setup (P.state plant.old) self.old h [] →
             IfErr result (λ e. (puts : List Bool)
             × TurnStops setup (P.state plant.old) (P.state plant.new) self.new h [] (entries_trying setup self.old.state puts) e
@@ -251,7 +251,7 @@ impl<T: Planner> Hub<T> {
         requires { (nat_lt 0 (length self.old.state.waiting) || any_pends self.old.state) ≡ true }
         ensures turns { (limits : Limits) (h t : List Entry) → IsReady (setup_of T.means limits) (P.state plant.old) self.old h t → OnOk result ((puts : List Bool)
             × Turns (setup_of T.means limits) (P.state plant.old) (P.state plant.new) self.new h t (entries_turn (setup_of T.means limits) self.old.state clock puts)
-            × RoseBy (misses puts) (P.state plant.old).shelf_faults (P.state plant.new).shelf_faults) }
+            × EachTried (count_tried (setup_of T.means limits) self.old.state clock) puts (P.state plant.old).shelf_faults (P.state plant.new).shelf_faults) }
         ensures stops { (limits : Limits) (h t : List Entry) → IsReady (setup_of T.means limits) (P.state plant.old) self.old h t →
             IfErr result (λ e. (puts : List Bool)
             × TurnStops (setup_of T.means limits) (P.state plant.old) (P.state plant.new) self.new h t (entries_turn (setup_of T.means limits) self.old.state clock puts) e
@@ -276,7 +276,7 @@ impl<T: Planner> Hub<T> {
     ) -> Result<(), HubFault>
         ensures turns { (limits : Limits) (h t : List Entry) → IsReady (setup_of T.means limits) (P.state plant.old) self.old h t → OnOk result ((puts : List Bool)
             × Turns (setup_of T.means limits) (P.state plant.old) (P.state plant.new) self.new h t (entries_turn (setup_of T.means limits) self.old.state clock puts)
-            × RoseBy (misses puts) (P.state plant.old).shelf_faults (P.state plant.new).shelf_faults) }
+            × EachTried (count_tried (setup_of T.means limits) self.old.state clock) puts (P.state plant.old).shelf_faults (P.state plant.new).shelf_faults) }
         ensures stops { (limits : Limits) (h t : List Entry) → IsReady (setup_of T.means limits) (P.state plant.old) self.old h t →
             IfErr result (λ e. (puts : List Bool)
             × TurnStops (setup_of T.means limits) (P.state plant.old) (P.state plant.new) self.new h t (entries_turn (setup_of T.means limits) self.old.state clock puts) e
