@@ -1,5 +1,5 @@
 // Categorising what was accepted, and turns in which what waits is tried.
-ghost use Rattle.std.specs.Prelude.{◌≡◌, ◌≤◌, ◌⊎◌, ◌||◌, nat_lt, length, List, [], ◌∷◌, ◌++◌, false, Bool, IsTrue, IfOk, IfErr, OnOk, IsErrOf, Ok, true};
+ghost use Rattle.std.specs.Prelude.{◌≡◌, ◌≤◌, ◌||◌, nat_lt, length, List, [], ◌∷◌, false, Bool, IsTrue, IfOk, IfErr, OnOk, IsErrOf, Ok, true};
 ghost use Rattle.port_io.specs.Causes.{Rose, RoseBy};
 ghost use Rattle.mail_plan.specs.declared.entry.Entry.{Entry};
 ghost use Rattle.plant_dev.specs.Disk.{Stays, LeavesOnly};
@@ -22,7 +22,7 @@ use plant_dev::{Plant, ShelfFault};
 use std::alloc::Global;
 
 impl<T: Planner> Hub<T> {
-    ghost use Rattle.queue_store.specs.Calls.{after_entries, count_tried, entries_at, entries_all, entries_categorise, entries_try, entries_tries, entries_trying, entries_turn, misses, names_waiting, EachTried, IsDelivery};
+    ghost use Rattle.queue_store.specs.Calls.{count_tried, entries_at, entries_all, entries_categorise, entries_try, entries_tries, entries_trying, entries_turn, misses, names_waiting, EachTried, IsDelivery};
 
     // Categorises a release, where it waits.
     fn categorise<P: Plant>(
