@@ -2,7 +2,7 @@
 use Rattle.std.proofs.Common.{◌≡◌, ◌⊎◌, inl, inr, ℕ, ◌+◌, ◌≤◌, Bool, List, [], ◌∷◌, ◌++◌, Option, refl, ap, ◌∙◌, sym, subst, arith, append_assoc, append-nil}
 use Rattle.port_io.specs.Causes.{Rose, RoseBy}
 use Rattle.port_io.specs.Told.{Gave}
-use Rattle.mail_plan.specs.declared.entry.Entry.{Entry}
+use Rattle.log_entry.specs.declared.entry.Entry.{Entry}
 use Rattle.plant_dev.specs.Disk.{State, Image}
 use Rattle.plant_dev.proofs.Offered.{started, weakens}
 use Rattle.hub_core.specs.Standing.{Standing, standing}

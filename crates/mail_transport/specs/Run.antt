@@ -3,7 +3,7 @@ use Rattle.std.specs.Prelude.{◌≡◌, ◌⊎◌, ◌+◌, ℕ, Bool, false, L
 use Rattle.std.specs.Io.KnownBytes.{Appends, Consumes}
 use Rattle.port_io.specs.Causes.{Rose, RoseBy}
 use Rattle.port_io.specs.Told.{Gave}
-use Rattle.mail_plan.specs.declared.entry.Entry.{Entry}
+use Rattle.log_entry.specs.declared.entry.Entry.{Entry}
 use Rattle.plant_dev.specs.Disk.{State, LeavesOnly}
 use Rattle.hub_core.specs.Standing.{Standing, standing}
 use Rattle.queue_store.specs.declared.fault.HubFault.{HubFault}

@@ -2,7 +2,7 @@
 use Rattle.std.proofs.Common.{◌≡◌, ◌⊎◌, inl, inr, Bool, true, List, [], ◌++◌, Result, Ok, Err, refl, ap, ◌∙◌, sym, subst, append_assoc, append-nil}
 use Rattle.std.specs.Prelude.{fold, OnOk, IfErr}
 use Rattle.std.proofs.lemmas.Grind.{fold-append}
-use Rattle.mail_plan.specs.declared.entry.Entry.{Entry}
+use Rattle.log_entry.specs.declared.entry.Entry.{Entry}
 use Rattle.plant_dev.specs.Disk.{State, Image, LeavesOnly}
 use Rattle.plant_dev.proofs.Offered.{joins, weakens}
 use Rattle.hub_core.specs.Setup.{Setup}

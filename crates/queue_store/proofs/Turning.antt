@@ -4,7 +4,7 @@ use Rattle.std.specs.Prelude.{◌||◌, fold, not, OnOk, IfErr}
 use Rattle.std.proofs.lemmas.List.{drop_more}
 use Rattle.std.proofs.lemmas.Grind.{fold-append}
 use Rattle.mail_names.specs.declared.name.ItemName.{ItemName}
-use Rattle.mail_plan.specs.declared.entry.Entry.{Entry}
+use Rattle.log_entry.specs.declared.entry.Entry.{Entry}
 use Rattle.port_io.specs.Causes.{Rose, RoseBy}
 use Rattle.plant_dev.specs.Disk.{State, LeavesOnly}
 use Rattle.hub_core.specs.Setup.{Setup}
@@ -14,7 +14,7 @@ use Rattle.queue_store.specs.Ready.{Kept, Before, Mended, Grows, Turns, TurnStop
 use Rattle.queue_store.specs.Turning.{LeadsTurn, Done, FailsOpened, FailsPartly}
 use Rattle.queue_store.proofs.Finishing.{done_behind, partly_behind}
 use Rattle.queue_store.proofs.Runs.{done, partly}
-use Rattle.mail_plan.specs.declared.entry.Entry.TheVariants as entries
+use Rattle.log_entry.specs.declared.entry.Entry.TheVariants as entries
 use Rattle.std.specs.Prelude.{nat_lt}
 use Rattle.hub_core.specs.declared.live.TaskName.{TaskName}
 use Rattle.hub_core.specs.Standing.{now_of, any_pends}

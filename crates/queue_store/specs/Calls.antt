@@ -4,11 +4,11 @@ use Rattle.mail_names.specs.declared.name.ApprovalName.{ApprovalName}
 use Rattle.mail_names.specs.declared.name.ItemName.{ItemName}
 use Rattle.port_io.specs.Causes.{RoseBy}
 use Rattle.moderation.specs.declared.approval.Verdict.{Verdict}
-use Rattle.mail_plan.specs.Submission.{Submitted}
-use Rattle.mail_plan.specs.declared.entry.Entry.{Entry}
-use Rattle.mail_plan.specs.declared.entry.Entry.TheVariants as entries
+use Rattle.mail_submission.specs.Submission.{Submitted}
+use Rattle.log_entry.specs.declared.entry.Entry.{Entry}
+use Rattle.log_entry.specs.declared.entry.Entry.TheVariants as entries
 use Rattle.hub_core.specs.declared.queue.QueuedItem.{QueuedItem}
-use Rattle.mail_plan.specs.declared.intake.Accepted.{Accepted}
+use Rattle.mail_submission.specs.declared.intake.Accepted.{Accepted}
 use Rattle.hub_core.specs.declared.command.Reply.TheVariants as replies
 use Rattle.mail_plan.specs.Planning.{Input}
 use Rattle.hub_core.specs.declared.live.TaskName.{TaskName}

@@ -1,7 +1,7 @@
 -- What a call leaves, also where a fault had broken the log off and it is opened first.
 use Rattle.std.specs.Prelude.{◌≡◌, ◌⊎◌, ℕ, Bool, true, List, [], ◌++◌, Result, Ok, Err}
 use Rattle.port_io.specs.Causes.{RoseBy}
-use Rattle.mail_plan.specs.declared.entry.Entry.{Entry}
+use Rattle.log_entry.specs.declared.entry.Entry.{Entry}
 use Rattle.plant_dev.specs.Disk.{State, Image, LeavesOnly}
 use Rattle.hub_core.specs.Setup.{Setup}
 use Rattle.hub_core.specs.Standing.{Standing, standing}

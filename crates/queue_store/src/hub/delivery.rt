@@ -1,14 +1,14 @@
 // Categorising what was accepted, and turns in which what waits is tried.
 ghost use Rattle.std.specs.Prelude.{◌≡◌, ◌≤◌, ◌||◌, nat_lt, length, List, [], ◌∷◌, false, Bool, IsTrue, IfOk, IfErr, OnOk, IsErrOf, Ok, true};
 ghost use Rattle.port_io.specs.Causes.{Rose, RoseBy};
-ghost use Rattle.mail_plan.specs.declared.entry.Entry.{Entry};
+ghost use Rattle.log_entry.specs.declared.entry.Entry.{Entry};
 ghost use Rattle.plant_dev.specs.Disk.{Stays, LeavesOnly};
 ghost use Rattle.hub_core.specs.Items.{items, Among};
 ghost use Rattle.hub_core.specs.declared.limits.Limits.{Limits};
 ghost use Rattle.hub_core.specs.Setup.{Setup, setup_of};
 ghost use Rattle.hub_core.specs.Standing.{Standing, any_pends};
 ghost use Rattle.std.specs.List.{AllByRecursion};
-ghost use Rattle.mail_plan.specs.declared.entry.Entry.TheVariants as entries;
+ghost use Rattle.log_entry.specs.declared.entry.Entry.TheVariants as entries;
 ghost use Rattle.queue_store.specs.Stands.{Stands};
 ghost use Rattle.queue_store.specs.Ready.{Kept, IsReady, HubStands, Adds, Fails, FailsLater, Turns, TurnStops, EachHas};
 ghost use Rattle.queue_store.specs.Turning.{LeadsOn, LeadsTurn};
@@ -16,8 +16,9 @@ ghost use Rattle.queue_store.specs.Turning.{LeadsOn, LeadsTurn};
 use super::Hub;
 use crate::HubFault;
 use hub_core::{QueuedItem, TaskName};
+use log_entry::Entry;
 use mail_names::{ItemName, NoMemory};
-use mail_plan::{Entry, Planner, plan};
+use mail_plan::{Planner, plan};
 use plant_dev::{Plant, ShelfFault};
 use std::alloc::Global;
 

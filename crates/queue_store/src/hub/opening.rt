@@ -1,7 +1,7 @@
 // Opening: the state that the entries of a log leave.
 ghost use Rattle.std.specs.Prelude.{◌≡◌, ◌⊎◌, [], List, length, true, false, IsTrue, IfOk, IfErr, OnOk, IsErrOf};
 ghost use Rattle.port_io.specs.Causes.{Rose};
-ghost use Rattle.mail_plan.specs.declared.entry.Entry.{Entry};
+ghost use Rattle.log_entry.specs.declared.entry.Entry.{Entry};
 ghost use Rattle.plant_dev.specs.Disk.{Stays, Reads, LeavesOnly};
 ghost use Rattle.queue_disk.specs.Log.{FileOf, log_of};
 ghost use Rattle.queue_disk.specs.Reading.{IsHeld, IsRead, Begins};
@@ -14,7 +14,8 @@ ghost use Rattle.queue_store.specs.Opening.{IsLogOf, OpenFault};
 use super::Hub;
 use crate::HubFault;
 use hub_core::{Limits, State, StepFault};
-use mail_plan::{Entry, Planner};
+use log_entry::Entry;
+use mail_plan::Planner;
 use plant_dev::Plant;
 use queue_disk::{Log, open_log};
 use std::alloc::Global;

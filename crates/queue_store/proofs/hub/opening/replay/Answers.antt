@@ -1,8 +1,8 @@
 use Rattle.std.proofs.Common.{rules, ◌≡◌, inr, [], ◌∷◌, ◌++◌, ◌+◌, length, drop, Option, Some, Ok, Err, sym, ◌∙◌, ap, subst}
 use Rattle.plant_dev.specs.Disk.{Image}
 use Rattle.plant_dev.proofs.Offered.{stays_honest, stays_more, reads_more}
-use Rattle.mail_plan.specs.declared.entry.Entry.{Entry}
-use Rattle.mail_plan.specs.EntryText.{entry_text}
+use Rattle.log_entry.specs.declared.entry.Entry.{Entry}
+use Rattle.log_entry.specs.EntryText.{entry_text}
 use Rattle.queue_disk.specs.Reading.{IsHeld, IsRead, ReadsOn, NextAnswer}
 use Rattle.hub_core.specs.declared.limits.Limits.{Limits}
 use Rattle.hub_core.specs.Setup.{setup_of}
