@@ -1,5 +1,5 @@
 // A call at a desk.
-ghost use Rattle.std.specs.Prelude.{◌≡◌, [], IfOk, IfErr};
+ghost use Rattle.std.specs.Prelude.{◌≡◌, IfOk, IfErr};
 ghost use Rattle.desk_turns.specs.declared.view.Stage.TheVariants.{Idle};
 ghost use Rattle.desk_turns.specs.Calls.{Called, CanEnd, Full, Made};
 ghost use Rattle.desk_turns.specs.Desks.{IsHolding, IsIdle, IsOf};

@@ -1,4 +1,4 @@
-use Rattle.std.proofs.Common.{◌≡◌, ◌≤◌}
+use Rattle.std.proofs.Common.{◌≡◌}
 use Rattle.desk_turns.specs.Desks.{IsOf}
 use Rattle.desk_tests.proofs.threads.serve.Given as goal
 
