@@ -9,7 +9,7 @@ use Rattle.log_entry.specs.declared.places.Miss.{Miss}
 use Rattle.log_entry.proofs.Standing.{both, first, same, same_last, behind}
 use Rattle.log_entry.proofs.Forms.{one_bytes, one_key, one_key_option, one_origin, one_list}
 use Rattle.log_entry.proofs.Parts.{passed_on, refused}
-use Rattle.log_entry.proofs.Made.{made_of}
+use Rattle.mail_submission.proofs.Offered.{made_of}
 use Rattle.log_entry.proofs.fields.submission_at.Goals as goal
 
 pub list_at-requires : goal.list_at-requires
