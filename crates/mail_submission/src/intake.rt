@@ -29,6 +29,18 @@ pub enum IntakeFault {
     DeskFull { calls: u64 },
 }
 
+/// Why the next number wasn't told.
+#[derive(Clone, Copy, Debug, PartialEq, Eq)]
+pub enum NumberFault {
+    /// The disk failed.
+    DiskFault,
+    NoMemory,
+    /// The log's file is no log, first at this octet.
+    NotALog { at: u64 },
+    /// The desk took so many calls, and takes no more.
+    DeskFull { calls: u64 },
+}
+
 /// A call with its arguments and its answer. Contracts speak of it; no value of it is made.
 pub enum IntakeStep {
     Submit {
@@ -37,7 +49,7 @@ pub enum IntakeStep {
         answer: Result<Accepted, IntakeFault>,
     },
     NextNumber {
-        answer: Result<u64, IntakeFault>,
+        answer: Result<u64, NumberFault>,
     },
 }
 
@@ -56,8 +68,8 @@ pub trait Intake {
         ensures later { disk_faults self.old ≤ disk_faults self.new };
 
     /// The number that the next new submission gets.
-    fn next_number(&mut self) -> Result<u64, IntakeFault>
+    fn next_number(&mut self) -> Result<u64, NumberFault>
         ensures gives { gives self.old (IntakeStep.NextNumber result) self.new }
-        ensures cause { IsErrOf result IntakeFault.DiskFault → Rose (disk_faults self.old) (disk_faults self.new) }
+        ensures cause { IsErrOf result NumberFault.DiskFault → Rose (disk_faults self.old) (disk_faults self.new) }
         ensures later { disk_faults self.old ≤ disk_faults self.new };
 }

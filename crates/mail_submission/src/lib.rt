@@ -5,5 +5,5 @@ mod base;
 mod intake;
 mod submission;
 
-pub use intake::{Accepted, Intake, IntakeFault, IntakeStep};
+pub use intake::{Accepted, Intake, IntakeFault, IntakeStep, NumberFault};
 pub use submission::{MOST_RECIPIENTS, Origin, Submission, SubmissionFault};

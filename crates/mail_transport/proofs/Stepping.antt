@@ -7,6 +7,7 @@ use Rattle.log_entry.specs.declared.entry.Entry.{Entry}
 use Rattle.log_entry.specs.declared.entry.Entry.TheVariants as entries
 use Rattle.mail_submission.specs.declared.intake.Accepted.{Accepted}
 use Rattle.mail_submission.specs.declared.intake.IntakeFault.{IntakeFault}
+use Rattle.mail_submission.specs.declared.intake.NumberFault.{NumberFault}
 use Rattle.mail_submission.specs.declared.intake.IntakeStep.{IntakeStep}
 use Rattle.mail_submission.specs.declared.intake.IntakeStep.TheVariants as steps
 use Rattle.plant_dev.specs.Disk.{State, Image, LeavesOnly}
@@ -16,14 +17,14 @@ use Rattle.hub_core.specs.Standing.{Standing, standing, usual, has_room, place_o
 use Rattle.categorizer.specs.Meaning.{hub_means}
 use Rattle.queue_store.specs.declared.fault.HubFault.{HubFault}
 use Rattle.queue_store.specs.declared.fault.HubFault.TheVariants as faults
-use Rattle.queue_store.specs.Faults.{intake_fault}
+use Rattle.queue_store.specs.Faults.{intake_fault, number_fault}
 use Rattle.queue_store.specs.Stands.{Stands, MayStand, IsOneOf}
 use Rattle.queue_store.specs.Room.{Fits, IsFull}
 use Rattle.queue_store.specs.Ready.{Kept, IsReady, HubStands, IsOpened, Before, Mended, MidCall, MidBreak}
 use Rattle.queue_store.specs.Turning.{MidRun, Done, NotOpened, Broke, Refused, FailsWhole, LeadsSettled}
 use Rattle.queue_store.specs.Calls.{entries_new, entries_submit, IsAccepted, IsQueueFull}
 use Rattle.queue_store.specs.Refusals.{RefusedBy}
-use Rattle.queue_store.specs.Office.{Does, Submits, Counts, answer_of}
+use Rattle.queue_store.specs.Office.{Does, Submits, Counts, answer_of, number_of}
 use Rattle.queue_store.proofs.Offered.{before_may, one_of, settled_behind}
 use Rattle.mail_transport.specs.HubSetup.{hub_setup}
 use Rattle.mail_transport.specs.Points.{Point, Trace, RunsAt, sure, IsLeftAt, IsLeftAtOne, IsLeftWithin}
@@ -254,20 +255,20 @@ module _ (s0 s s' : State) (hub hub' : Kept) (t : Trace) (at : RunsAt s0 s hub t
       goes (steps.NextNumber (Ok n)) (sure m.kept) (record { found = m.kept; is_found = opened.0; why = is ∙ ap (λ (st : Standing). length st.live + 1) now; end = refl })
       (inl (subst (λ (g : List Entry). IsReady hub_setup s' hub' m.kept g) opened.1 m.ready)) (λ whole. refl) (inl refl) (inl refl) (weakens s s' (MayStand hub_setup h doubt) (Within (sure m.kept)) (λ c may. inl may) run)
 
-  uncounted : (fault : HubFault) → (fault ≡ faults.DiskFault → Rose s.disk_faults s'.disk_faults) → NotOpened hub_setup hub.broken s s' hub' h doubt fault → Next (steps.NextNumber (Err (intake_fault fault)))
+  uncounted : (fault : HubFault) → (fault ≡ faults.DiskFault → Rose s.disk_faults s'.disk_faults) → NotOpened hub_setup hub.broken s s' hub' h doubt fault → Next (steps.NextNumber (Err (number_fault fault)))
   uncounted fault cause none = elim none.why [
-    | inl disk ↦ subst (λ (f : HubFault). Next (steps.NextNumber (Err (intake_fault f)))) (sym disk) (not_opened (steps.NextNumber (Err (intake_fault faults.DiskFault))) fault refl (inr (refl, cause disk)) none)
-    | inr memory ↦ subst (λ (f : HubFault). Next (steps.NextNumber (Err (intake_fault f)))) (sym memory) (not_opened (steps.NextNumber (Err (intake_fault faults.NoMemory))) fault refl (inl refl) none)
+    | inl disk ↦ subst (λ (f : HubFault). Next (steps.NextNumber (Err (number_fault f)))) (sym disk) (not_opened (steps.NextNumber (Err (number_fault faults.DiskFault))) fault refl (inr (refl, cause disk)) none)
+    | inr memory ↦ subst (λ (f : HubFault). Next (steps.NextNumber (Err (number_fault f)))) (sym memory) (not_opened (steps.NextNumber (Err (number_fault faults.NoMemory))) fault refl (inl refl) none)
   ]
 
   number_told : (told : Result ℕ HubFault) → IfOk told (λ n. n ≡ length hub'.state.live + 1) → (IsErrOf told faults.DiskFault → Rose s.disk_faults s'.disk_faults) → OnOk told (Mended hub_setup hub.broken s' hub' h doubt) →
-      IfErr told (NotOpened hub_setup hub.broken s s' hub' h doubt) → LeavesOnly s s' (MayStand hub_setup h doubt) → Next (steps.NextNumber (answer_of told))
+      IfErr told (NotOpened hub_setup hub.broken s s' hub' h doubt) → LeavesOnly s s' (MayStand hub_setup h doubt) → Next (steps.NextNumber (number_of told))
   number_told (Ok n) is cause opened failed run = counted n is opened run
   number_told (Err fault) is cause opened failed run = uncounted fault (λ disk. cause (ap Err disk)) failed
 
-  counts_told : (answer : Result ℕ IntakeFault) → Counts (setup_of hub_means) s hub answer s' hub' → Next (steps.NextNumber answer)
+  counts_told : (answer : Result ℕ NumberFault) → Counts (setup_of hub_means) s hub answer s' hub' → Next (steps.NextNumber answer)
   counts_told answer d =
-      subst (λ (a : Result ℕ IntakeFault). Next (steps.NextNumber a)) (sym d.is_told)
+      subst (λ (a : Result ℕ NumberFault). Next (steps.NextNumber a)) (sym d.is_told)
       (number_told d.told d.number d.cause (d.opened usual h doubt at.at.stands) (d.failed usual h doubt at.at.stands) (d.moments usual h doubt at.at.stands))
 
 -- A step of a lent hub goes on from the point that the hub stands for.

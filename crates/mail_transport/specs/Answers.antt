@@ -4,6 +4,7 @@ use Rattle.mail_submission.specs.Submission.{Submitted}
 use Rattle.log_entry.specs.declared.entry.Entry.{Entry}
 use Rattle.mail_submission.specs.declared.intake.Accepted.{Accepted}
 use Rattle.mail_submission.specs.declared.intake.IntakeFault.TheVariants as faults
+use Rattle.mail_submission.specs.declared.intake.NumberFault.TheVariants as numbers
 use Rattle.mail_submission.specs.declared.intake.IntakeStep.{IntakeStep}
 use Rattle.mail_submission.specs.declared.intake.IntakeStep.TheVariants as steps
 use Rattle.hub_core.specs.Standing.{standing}
@@ -47,15 +48,15 @@ HistoryGives p (steps.Submit submission clock (Err (faults.LogFull octets))) p' 
     Refuses p (λ found. IsFull hub_setup.limits.log found (entries_submit (standing hub_setup found) clock submission) octets) p'
 HistoryGives p (steps.Submit submission clock (Err fault)) p' = ⊥
 HistoryGives p (steps.NextNumber (Ok number)) p' = Refuses p (λ found. number ≡ length (standing hub_setup found).live + 1) p'
-HistoryGives p (steps.NextNumber (Err faults.DiskFault)) p' = p' ≡ p
-HistoryGives p (steps.NextNumber (Err faults.NoMemory)) p' = p' ≡ p
+HistoryGives p (steps.NextNumber (Err numbers.DiskFault)) p' = p' ≡ p
+HistoryGives p (steps.NextNumber (Err numbers.NoMemory)) p' = p' ≡ p
 HistoryGives p (steps.NextNumber (Err fault)) p' = ⊥
 
 -- how many disk faults an answer tells
 abbrev pub faults_told : IntakeStep → ℕ
 faults_told (steps.Submit submission clock (Err faults.DiskFault)) = 1
 faults_told (steps.Submit submission clock answer) = 0
-faults_told (steps.NextNumber (Err faults.DiskFault)) = 1
+faults_told (steps.NextNumber (Err numbers.DiskFault)) = 1
 faults_told (steps.NextNumber answer) = 0
 
 -- A run goes on by an answer.

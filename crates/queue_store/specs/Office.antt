@@ -6,6 +6,7 @@ use Rattle.log_entry.specs.declared.entry.Entry.{Entry}
 use Rattle.mail_submission.specs.declared.intake.Accepted.{Accepted}
 use Rattle.mail_submission.specs.declared.intake.IntakeFault.{IntakeFault}
 use Rattle.mail_submission.specs.declared.intake.IntakeStep.{IntakeStep}
+use Rattle.mail_submission.specs.declared.intake.NumberFault.{NumberFault}
 use Rattle.mail_submission.specs.declared.intake.IntakeStep.TheVariants as steps
 use Rattle.plant_dev.specs.Disk.{State, Stays, LeavesOnly}
 use Rattle.hub_core.specs.declared.limits.Limits.{Limits}
@@ -13,7 +14,7 @@ use Rattle.hub_core.specs.Setup.{Setup}
 use Rattle.hub_core.specs.Standing.{Standing}
 use Rattle.queue_store.specs.declared.fault.HubFault.{HubFault}
 use Rattle.queue_store.specs.declared.fault.HubFault.TheVariants as faults
-use Rattle.queue_store.specs.Faults.{intake_fault}
+use Rattle.queue_store.specs.Faults.{intake_fault, number_fault}
 use Rattle.queue_store.specs.Stands.{MayStand}
 use Rattle.queue_store.specs.Ready.{Kept, HubStands, Mended}
 use Rattle.queue_store.specs.Turning.{LeadsSettled, NotOpened}
@@ -21,9 +22,13 @@ use Rattle.queue_store.specs.Calls.{entries_submit, IsAccepted}
 use Rattle.queue_store.specs.Refusals.{RefusedBy}
 
 -- the answer of an office by that of the hub
-abbrev pub answer_of : {T : Type 0} → Result T HubFault → Result T IntakeFault
-answer_of (Ok answer) = Ok answer
+abbrev pub answer_of : Result Accepted HubFault → Result Accepted IntakeFault
+answer_of (Ok accepted) = Ok accepted
 answer_of (Err fault) = Err (intake_fault fault)
+
+abbrev pub number_of : Result ℕ HubFault → Result ℕ NumberFault
+number_of (Ok number) = Ok number
+number_of (Err fault) = Err (number_fault fault)
 
 -- A submission was answered, and what was added for it is settled.
 pub record Submits (by : Limits → Setup) (s : State) (hub : Kept) (submission : Submitted) (clock : ℕ) (answer : Result Accepted IntakeFault) (s' : State) (hub' : Kept) : Type 0 where
@@ -37,9 +42,9 @@ pub record Submits (by : Limits → Setup) (s : State) (hub : Kept) (submission 
       LeadsSettled (by limits) hub.broken s s' hub' h t mid (entries_submit mid clock submission) (RefusedBy (by limits) mid submission clock) told
 
 -- The next number was asked for, and nothing was added.
-pub record Counts (by : Limits → Setup) (s : State) (hub : Kept) (answer : Result ℕ IntakeFault) (s' : State) (hub' : Kept) : Type 0 where
+pub record Counts (by : Limits → Setup) (s : State) (hub : Kept) (answer : Result ℕ NumberFault) (s' : State) (hub' : Kept) : Type 0 where
   pub told : Result ℕ HubFault
-  pub is_told : answer ≡ answer_of told
+  pub is_told : answer ≡ number_of told
   pub number : IfOk told (λ n. n ≡ length hub'.state.live + 1)
   pub cause : IsErrOf told faults.DiskFault → Rose s.disk_faults s'.disk_faults
   pub opened : (limits : Limits) (h t : List Entry) → HubStands (by limits) s hub h t → OnOk told (Mended (by limits) hub.broken s' hub' h t)

@@ -1,10 +1,10 @@
 // A hub and its plant, lent to a session.
 ghost use Rattle.std.specs.Prelude.{◌≡◌};
-ghost use Rattle.queue_store.specs.Faults.{intake_fault};
+ghost use Rattle.queue_store.specs.Faults.{intake_fault, number_fault};
 
 use crate::{Hub, HubFault};
 use mail_plan::Planner;
-use mail_submission::{Accepted, Intake, IntakeFault, Submission};
+use mail_submission::{Accepted, Intake, IntakeFault, NumberFault, Submission};
 use plant_dev::Plant;
 use std::alloc::Global;
 
@@ -32,6 +32,22 @@ fn intake_fault(fault: HubFault) -> IntakeFault
     }
 }
 
+fn number_fault(fault: HubFault) -> NumberFault
+    ensures { result ≡ number_fault fault }
+{
+    match fault {
+        HubFault::DiskFault => NumberFault::DiskFault,
+        HubFault::NoMemory => NumberFault::NoMemory,
+        HubFault::NotALog { at } => NumberFault::NotALog { at },
+        // None of these comes of opening the log.
+        HubFault::QueueFull { .. } => NumberFault::NoMemory,
+        HubFault::LogFull { .. } => NumberFault::NoMemory,
+        HubFault::Org { .. } => NumberFault::NoMemory,
+        HubFault::EpochsFull { .. } => NumberFault::NoMemory,
+        HubFault::NoSuchApproval => NumberFault::NoMemory,
+    }
+}
+
 impl<P: Plant, T: Planner> Intake for LocalOffice<'_, P, T> {
     ghost use Rattle.hub_core.specs.Setup.{setup_of};
     ghost use Rattle.queue_store.specs.Office.{Does};
@@ -52,10 +68,10 @@ impl<P: Plant, T: Planner> Intake for LocalOffice<'_, P, T> {
         }
     }
 
-    fn next_number(&mut self) -> Result<u64, IntakeFault> {
+    fn next_number(&mut self) -> Result<u64, NumberFault> {
         match self.hub.next_number(self.alloc, self.plant) {
             Ok(number) => Ok(number),
-            Err(fault) => Err(intake_fault(fault)),
+            Err(fault) => Err(number_fault(fault)),
         }
     }
 }

@@ -1,6 +1,6 @@
 // An intake that gives the script's answers.
 use mail_names::NoMemory;
-use mail_submission::{Accepted, Intake, IntakeFault, Submission};
+use mail_submission::{Accepted, Intake, IntakeFault, NumberFault, Submission};
 use std::alloc::Global;
 
 /// Gives these answers in order, and then number 1 for good.
@@ -83,7 +83,7 @@ impl Intake for Answers {
         }
     }
 
-    fn next_number(&mut self) -> Result<u64, IntakeFault> {
+    fn next_number(&mut self) -> Result<u64, NumberFault> {
         Ok(1)
     }
 }

@@ -8,7 +8,7 @@ returns-in-Err-clause-gives g c = (
   record {
     does = record {
       told = Err c.in-Err.fault;
-      is_told = ap Err c.intake_fault.ensures;
+      is_told = ap Err c.number_fault.ensures;
       number = tt;
       cause = c.in-Err.ensures.cause;
       opened = λ limits h t stands. tt;
