@@ -1,8 +1,9 @@
 // What holds of pickup files and their names.
-ghost use Rattle.std.specs.Prelude.{◌≡◌, ℕ, List, Some};
+ghost use Rattle.std.specs.Prelude.{◌≡◌, ℕ, ◌<◌, ◌^◌, List, Some};
 ghost use Rattle.std.specs.List.{join_with_byte};
 ghost use Rattle.pickup_box.specs.Addresses.{pieces, AreWhole};
 ghost use Rattle.pickup_box.specs.FileNames.{begun_stem, new_stem, IsBegunName, IsNewName};
+ghost use Rattle.pickup_box.specs.Works.{mark_of};
 ghost use Rattle.pickup_box.specs.declared.addresses.Inside.TheVariants as inside;
 
 /// The pieces of a value are the value with a comma between each two, and none of them is split again.
@@ -21,4 +22,10 @@ pub fn begun_names_are_told()
 pub fn new_names_are_told()
     ensures found { (name stem : List ℕ) → new_stem name ≡ Some stem → IsNewName name stem }
     ensures only { (name stem : List ℕ) → IsNewName name stem → new_stem name ≡ Some stem }
+{}
+
+/// A file that was begun keeps its mark, whatever number the next submission gets: a file that a crash left behind its
+/// submission is submitted under the same mark.
+pub fn marks_stay()
+    ensures { (name : List ℕ) (number other : ℕ) → number < 2 ^ 64 → mark_of (mark_of name number) other ≡ mark_of name number }
 {}
