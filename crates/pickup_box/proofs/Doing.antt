@@ -8,11 +8,11 @@ use Rattle.std.proofs.lemmas.Slice.Eq.{bytes_eq-Decides}
 use Rattle.std.proofs.lemmas.List.Concat.{flat_map-append}
 use Rattle.std.proofs.lemmas.List.Sums.{sum_by-append}
 use Rattle.port_io.specs.Told.{Gave, Tells as Tells'}
-use Rattle.mail_plan.specs.Submission.{Submitted}
-use Rattle.mail_plan.specs.declared.intake.Accepted.{Accepted}
-use Rattle.mail_plan.specs.declared.intake.IntakeFault.{IntakeFault}
-use Rattle.mail_plan.specs.declared.intake.IntakeStep.{IntakeStep}
-use Rattle.mail_plan.specs.declared.intake.IntakeStep.TheVariants as steps
+use Rattle.mail_submission.specs.Submission.{Submitted}
+use Rattle.mail_submission.specs.declared.intake.Accepted.{Accepted}
+use Rattle.mail_submission.specs.declared.intake.IntakeFault.{IntakeFault}
+use Rattle.mail_submission.specs.declared.intake.IntakeStep.{IntakeStep}
+use Rattle.mail_submission.specs.declared.intake.IntakeStep.TheVariants as steps
 use Rattle.pickup_box.specs.FileNames.{begun_stem, new_stem, is_begun, begun_name, bad_name}
 use Rattle.pickup_box.specs.Folder.{File, Folder, bytes_in, Has, Tells, Stays}
 use Rattle.pickup_box.specs.PickupOf.{pickup_of}

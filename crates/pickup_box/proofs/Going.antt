@@ -8,7 +8,7 @@ use Rattle.std.proofs.lemmas.List.Elements.{All-from_recursion, recursion_from_A
 use Rattle.std.proofs.lemmas.List.Sorted.{All-permutation}
 use Rattle.std.proofs.lemmas.List.Sums.{sum_by-append, sum_by-cons, count_by-le-length}
 use Rattle.port_io.specs.Told.{Gave}
-use Rattle.mail_plan.specs.declared.intake.IntakeStep.{IntakeStep}
+use Rattle.mail_submission.specs.declared.intake.IntakeStep.{IntakeStep}
 use Rattle.pickup_box.specs.FileNames.{is_begun, is_new, order_of}
 use Rattle.pickup_box.specs.Folder.{File, Folder, bytes_in, names_of, HasNoNameTwice, IsAscending, Has, Tells, Stays}
 use Rattle.pickup_box.specs.Works.{Work, Did, Stops, Steps, HaveBytes, Becomes, behind_all, fate, is_new_one, is_bad_one, counted, ended, IsOwn}

@@ -11,7 +11,7 @@ use Rattle.mail_message.specs.Faults.{most_octets}
 use Rattle.mail_message.specs.Message.{Mail}
 use Rattle.mail_message.specs.ReadOf.{read_of, read_from}
 use Rattle.mail_message.specs.declared.fault.MessageFault.TheVariants as faults
-use Rattle.mail_plan.specs.Submission.{Submitted}
+use Rattle.mail_submission.specs.Submission.{Submitted}
 use Rattle.pickup_box.specs.Folder.{Folder, bytes_in, Tells, Stays}
 use Rattle.pickup_box.specs.LineEnds.{has_cr, ended_line, with_crlf}
 use Rattle.pickup_box.specs.PickupOf.{pickup_of, submitted_read, Gives}

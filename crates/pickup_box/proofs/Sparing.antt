@@ -7,7 +7,7 @@ use Rattle.std.proofs.lemmas.List.{drop_at, get_or-map, length-map}
 use Rattle.std.proofs.lemmas.List.Elements.{filter_passes, recursion_from_All}
 use Rattle.std.proofs.lemmas.Map.Keys.{IsDistinct-head, IsDistinct-tail, IsDistinct-cons, IsDistinct-IsPermutation}
 use Rattle.std.proofs.lemmas.Map.Made.{IsDistinct-from_AllPairs}
-use Rattle.mail_plan.specs.Submission.{Submitted}
+use Rattle.mail_submission.specs.Submission.{Submitted}
 use Rattle.pickup_box.specs.FileNames.{begun_stem, new_stem, is_begun, is_new, order_of, begun_name, bad_name, before_ending, before_number}
 use Rattle.pickup_box.specs.Folder.{File, Folder, bytes_in, names_of, HasNoNameTwice}
 use Rattle.pickup_box.specs.Works.{Work, mark_of, stem_of, submission, gone, moved, put, behind, behind_all}

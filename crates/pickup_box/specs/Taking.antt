@@ -3,7 +3,7 @@
 use Rattle.std.specs.Prelude.{◌≡◌, ℕ, Bool, true, false, IsTrue, List, [], ◌∷◌, ◌++◌, map, Option, Result, Ok, Err, IsPermutation, ◌⊎◌}
 use Rattle.std.specs.List.{count_by}
 use Rattle.port_io.specs.Told.{Gave}
-use Rattle.mail_plan.specs.declared.intake.IntakeStep.{IntakeStep}
+use Rattle.mail_submission.specs.declared.intake.IntakeStep.{IntakeStep}
 use Rattle.pickup_box.specs.FileNames.{order_of}
 use Rattle.pickup_box.specs.Folder.{Folder, names_of, IsAscending, Tells, Stays}
 use Rattle.pickup_box.specs.Works.{Work, Did, Stops, fate, is_new_one, is_bad_one, IsOwn}

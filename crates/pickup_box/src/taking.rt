@@ -1,7 +1,7 @@
 // The work on a pickup folder.
 ghost use Rattle.std.specs.Prelude.{◌≡◌, ◌+◌, ◌<◌, ◌≤◌, ◌^◌, Err, None, Some, [], unwrap_or};
 ghost use Rattle.port_io.specs.Causes.{Rose};
-ghost use Rattle.mail_plan.specs.Submission.{Submitted};
+ghost use Rattle.mail_submission.specs.Submission.{Submitted};
 ghost use Rattle.pickup_box.specs.declared.taking.PickupFault.{PickupFault};
 ghost use Rattle.pickup_box.specs.FileNames.{begun_stem, new_stem, begun_name, bad_name};
 ghost use Rattle.pickup_box.specs.Folder.{Has};
@@ -14,7 +14,7 @@ use crate::folder::{DirFault, PickupDir};
 use crate::pickup::{PickupBad, pickup_of};
 use mail_message::MOST_OCTETS;
 use mail_names::{Bytes, NoMemory};
-use mail_plan::{Accepted, Intake, IntakeFault, Submission};
+use mail_submission::{Accepted, Intake, IntakeFault, Submission};
 use port_io::Clock;
 use std::alloc::Global;
 

@@ -2,7 +2,7 @@
 use crate::octets::Answer;
 use crate::row::{Fault, Row, number};
 use mail_names::{Bytes, NoMemory};
-use mail_plan::{Accepted, Intake, IntakeFault, Origin, Submission};
+use mail_submission::{Accepted, Intake, IntakeFault, Origin, Submission};
 use pickup_box::{MemoryDir, PickupEnd, PickupFault, have_own_names, take_files};
 use port_io::MemoryClock;
 use std::alloc::Global;
