@@ -1,27 +1,23 @@
 -- The work on files, one after another.
-use Rattle.std.proofs.Common.{◌≡◌, ℕ, ◌+◌, ◌≤◌, Bool, true, false, cond, List, [], ◌∷◌, ◌++◌, length, map, take, refl, ap, ◌∙◌, sym, subst, arith, inl, inr}
-use Rattle.std.specs.Prelude.{IsTrue, IsSome, bytes_eq, Option, Some, None, Result, Ok, Err, unwrap_or, is_some, nat_lt}
-use Rattle.std.specs.List.{flat_map, count_by}
-use Rattle.std.specs.Option.{option_map}
+use Rattle.std.proofs.Common.{◌≡◌, ℕ, ◌+◌, Bool, true, false, cond, List, [], ◌∷◌, ◌++◌, refl, ap, ◌∙◌, sym, subst, inl, inr}
+use Rattle.std.specs.Prelude.{IsTrue, IsSome, bytes_eq, Option, Some, None, Result, Ok, Err, unwrap_or, is_some}
+use Rattle.std.specs.List.{flat_map}
 use Rattle.std.proofs.lemmas.List.{append-nil}
 use Rattle.std.proofs.lemmas.Slice.Eq.{bytes_eq-Decides}
 use Rattle.std.proofs.lemmas.List.Concat.{flat_map-append}
-use Rattle.std.proofs.lemmas.List.Sums.{sum_by-append}
 use Rattle.port_io.specs.Told.{Gave, Tells as Tells'}
 use Rattle.mail_submission.specs.Submission.{Submitted}
-use Rattle.mail_submission.specs.declared.intake.Accepted.{Accepted}
 use Rattle.mail_submission.specs.declared.intake.IntakeFault.{IntakeFault}
 use Rattle.mail_submission.specs.declared.intake.IntakeStep.{IntakeStep}
 use Rattle.mail_submission.specs.declared.intake.IntakeStep.TheVariants as steps
 use Rattle.pickup_box.specs.FileNames.{begun_stem, new_stem, is_begun, begun_name, bad_name}
 use Rattle.pickup_box.specs.Folder.{File, Folder, bytes_in, Has, Tells, Stays}
 use Rattle.pickup_box.specs.PickupOf.{pickup_of}
-use Rattle.pickup_box.specs.Works.{Work, Did, Stop, Stops, HaveBytes, Steps, Becomes, Submits, Begun, Numbered, asked, ticked, numbers, submits, ticks, gone, moved, put, behind, behind_all, mark_of, stem_of, fate, fate_of, IsOwn, Halts}
+use Rattle.pickup_box.specs.Works.{Work, Did, HaveBytes, Steps, Becomes, Submits, Begun, Numbered, asked, ticked, numbers, submits, ticks, moved, put, behind, behind_all, mark_of, stem_of, fate_of}
 use Rattle.pickup_box.specs.Parts.{Begins, Stands, Given, Hands, Keeps, KeepsGiven, Handed, Took}
 use Rattle.pickup_box.specs.declared.taking.Halt.{Halt}
 use Rattle.pickup_box.specs.declared.taking.Fate.{Fate}
 use Rattle.pickup_box.specs.declared.taking.Fate.TheVariants as fates
-use Rattle.pickup_box.proofs.Sparing.{skip}
 
 pub steps_join : {I : Type 0} (gives : I → IntakeStep → I → Type 0) (a b c : I) (xs ys : List IntakeStep) → Steps gives a xs b → Steps gives b ys c → Steps gives a (xs ++ ys) c
 steps_join gives a b c [] ys e h = subst (λ x. Steps gives x ys c) (sym e) h

@@ -1,18 +1,17 @@
 -- The work on the files of an order.
-use Rattle.std.proofs.Common.{◌≡◌, ℕ, suc, ◌+◌, ◌<◌, ◌≤◌, Bool, true, false, cond, List, [], ◌∷◌, ◌++◌, length, map, take, drop, get_or, drop-cons, refl, ap, ◌∙◌, sym, subst, arith, inl, inr, length-append}
-use Rattle.std.specs.Prelude.{IsTrue, IsSome, IsPermutation, bytes_eq, filter, Option, Some, None, Result, Ok, Err}
+use Rattle.std.proofs.Common.{◌≡◌, ℕ, suc, ◌+◌, ◌<◌, ◌≤◌, Bool, true, false, cond, List, [], ◌∷◌, ◌++◌, length, map, take, drop, get_or, drop-cons, refl, ap, ◌∙◌, sym, subst, arith}
+use Rattle.std.specs.Prelude.{IsTrue, IsSome, IsPermutation, bytes_eq, filter, Option, Some, Result, Ok, Err}
 use Rattle.std.specs.List.{AllByRecursion, count_by}
 use Rattle.std.proofs.lemmas.Slice.Eq.{bytes_eq-Decides}
-use Rattle.std.proofs.lemmas.List.{take_all, take_more, take-append-drop, length-map, append_assoc, map-append}
+use Rattle.std.proofs.lemmas.List.{take_all, take_more, take-append-drop, length-map, map-append}
 use Rattle.std.proofs.lemmas.List.Elements.{All-from_recursion, recursion_from_All}
 use Rattle.std.proofs.lemmas.List.Sorted.{All-permutation}
 use Rattle.std.proofs.lemmas.List.Sums.{sum_by-append, sum_by-cons, count_by-le-length}
-use Rattle.port_io.specs.Told.{Gave}
 use Rattle.mail_submission.specs.declared.intake.IntakeStep.{IntakeStep}
 use Rattle.pickup_box.specs.FileNames.{is_begun, is_new, order_of}
 use Rattle.pickup_box.specs.Folder.{File, Folder, bytes_in, names_of, HasNoNameTwice, IsAscending, Has, Tells, Stays}
-use Rattle.pickup_box.specs.Works.{Work, Did, Stops, Steps, HaveBytes, Becomes, behind_all, fate, is_new_one, is_bad_one, counted, ended, IsOwn}
-use Rattle.pickup_box.specs.Taking.{InOrder, Tallies, Finishes, Ends, EndsWell, Goes, Unlisted, Taken}
+use Rattle.pickup_box.specs.Works.{Work, Did, HaveBytes, behind_all, fate, is_new_one, is_bad_one, counted, ended}
+use Rattle.pickup_box.specs.Taking.{InOrder, Tallies, Ends, EndsWell, Goes}
 use Rattle.pickup_box.specs.Parts.{Took}
 use Rattle.pickup_box.specs.declared.taking.PickupEnd.{PickupEnd}
 use Rattle.pickup_box.specs.declared.taking.PickupFault.{PickupFault}
@@ -21,7 +20,7 @@ use Rattle.pickup_box.specs.declared.taking.Halt.TheVariants as halts
 use Rattle.pickup_box.specs.declared.taking.Fate.{Fate}
 use Rattle.pickup_box.specs.declared.taking.Fate.TheVariants as fates
 use Rattle.pickup_box.proofs.Sparing.{Apart, all_spared, apart_order, distinct_names}
-use Rattle.pickup_box.proofs.Doing.{Did-none, Did-push, Becomes-stays, Stays-then}
+use Rattle.pickup_box.proofs.Doing.{Did-none, Did-push, Becomes-stays}
 
 abbrev named : List Work → List (List ℕ)
 named ws = map (λ (w : Work). w.name) ws

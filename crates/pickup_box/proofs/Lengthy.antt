@@ -1,5 +1,5 @@
 -- A file of more octets than a message may have stands for nothing, and so does what was read of it.
-use Rattle.std.proofs.Common.{◌≡◌, ℕ, ◌+◌, ◌<◌, ◌≤◌, Bool, true, false, cond, List, [], ◌∷◌, ◌++◌, length, take, refl, ap, ◌∙◌, sym, subst, arith, length-append}
+use Rattle.std.proofs.Common.{◌≡◌, ℕ, ◌+◌, ◌<◌, ◌≤◌, Bool, true, false, cond, List, [], ◌∷◌, length, take, refl, ap, ◌∙◌, sym, subst, arith, length-append}
 use Rattle.std.specs.Prelude.{◌==◌, nat_lt, IsTrue, Option, Some, None, Err}
 use Rattle.std.specs.List.{flat_map}
 use Rattle.std.specs.Option.{option_map}
@@ -8,7 +8,6 @@ use Rattle.std.proofs.lemmas.Bool.{ltb-true, lt-ltb}
 use Rattle.std.proofs.lemmas.List.{take_all, length-take-le}
 use Rattle.mail_names.specs.Lines.{lines_of}
 use Rattle.mail_message.specs.Faults.{most_octets}
-use Rattle.mail_message.specs.Message.{Mail}
 use Rattle.mail_message.specs.ReadOf.{read_of, read_from}
 use Rattle.mail_message.specs.declared.fault.MessageFault.TheVariants as faults
 use Rattle.mail_submission.specs.Submission.{Submitted}
@@ -17,7 +16,6 @@ use Rattle.pickup_box.specs.LineEnds.{has_cr, ended_line, with_crlf}
 use Rattle.pickup_box.specs.PickupOf.{pickup_of, submitted_read, Gives}
 use Rattle.pickup_box.specs.declared.pickup.PickupBad.{PickupBad}
 use Rattle.pickup_box.specs.declared.pickup.PickupBad.TheVariants as bad
-use Rattle.pickup_box.specs.Parts.{Stands}
 
 ended-le : (b : ℕ) → 1 ≤ length (ended_line b)
 ended-le b = by (b == 10)

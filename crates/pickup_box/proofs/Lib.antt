@@ -10,3 +10,4 @@ pub mod Lengthy
 pub mod Doing
 pub mod Going
 pub mod Marking
+pub mod Repeating

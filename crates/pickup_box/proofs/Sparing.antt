@@ -1,16 +1,15 @@
 -- Work on one file leaves the others in the order.
-use Rattle.std.proofs.Common.{◌≡◌, ℕ, suc, ◌+◌, ◌<◌, Bool, true, false, cond, List, [], ◌∷◌, ◌++◌, length, map, drop, refl, ap, ◌∙◌, sym, subst, arith, append_assoc, length-append}
-use Rattle.std.specs.Prelude.{bytes_eq, filter, codes, decimal, is_some, IsPermutation, Option, Some, None, unwrap_or, option_and_then}
-use Rattle.std.specs.List.{All, AllPairs, AllByRecursion, IsDistinct}
+use Rattle.std.proofs.Common.{◌≡◌, ℕ, Bool, true, false, cond, List, [], ◌∷◌, ◌++◌, length, map, drop, refl, ap, ◌∙◌, sym, arith, append_assoc, length-append}
+use Rattle.std.specs.Prelude.{bytes_eq, filter, codes, decimal, is_some, IsPermutation, Option, Some, None}
+use Rattle.std.specs.List.{AllByRecursion, IsDistinct}
 use Rattle.std.proofs.lemmas.Slice.Eq.{bytes_eq-Decides}
 use Rattle.std.proofs.lemmas.List.{drop_at, get_or-map, length-map}
-use Rattle.std.proofs.lemmas.List.Elements.{filter_passes, recursion_from_All}
 use Rattle.std.proofs.lemmas.Map.Keys.{IsDistinct-head, IsDistinct-tail, IsDistinct-cons, IsDistinct-IsPermutation}
 use Rattle.std.proofs.lemmas.Map.Made.{IsDistinct-from_AllPairs}
 use Rattle.mail_submission.specs.Submission.{Submitted}
-use Rattle.pickup_box.specs.FileNames.{begun_stem, new_stem, is_begun, is_new, order_of, begun_name, bad_name, before_ending, before_number}
-use Rattle.pickup_box.specs.Folder.{File, Folder, bytes_in, names_of, HasNoNameTwice}
-use Rattle.pickup_box.specs.Works.{Work, mark_of, stem_of, submission, gone, moved, put, behind, behind_all}
+use Rattle.pickup_box.specs.FileNames.{begun_stem, new_stem, is_begun, is_new, order_of, begun_name, bad_name}
+use Rattle.pickup_box.specs.Folder.{File, names_of, HasNoNameTwice}
+use Rattle.pickup_box.specs.Works.{Work, mark_of, stem_of, submission, moved, put, behind, behind_all}
 use Rattle.pickup_box.proofs.Naming.{begun_found, ending_found}
 
 pub skip : {X : Type 0} (t : Bool) (x y : X) → t ≡ false → cond t x y ≡ y

@@ -1,6 +1,6 @@
 -- What the parts of the work on one file do. In each definition the intake goes from a to b, the clock's moments from
 -- old to new, and the folder from d to e.
-use Rattle.std.specs.Prelude.{◌≡◌, ℕ, IsTrue, List, [], ◌∷◌, IsSome, Option, Some, None, Result, Ok, Err, ◌⊎◌}
+use Rattle.std.specs.Prelude.{◌≡◌, ℕ, IsTrue, List, [], ◌∷◌, IsSome, Option, Some, Result, Ok, Err, ◌⊎◌}
 use Rattle.port_io.specs.Told.{Gave}
 use Rattle.mail_submission.specs.Submission.{Submitted}
 use Rattle.mail_submission.specs.declared.intake.Accepted.{Accepted}
@@ -60,6 +60,7 @@ pub record GivesUp {I : Type 0} (gives : I → IntakeStep → I → Type 0) (a b
   pub folder : Tells Stays d e
   pub halts : Halts answer halt
 
+-- A submission was made, and its file went or is as before.
 abbrev pub Given : {I : Type 0} → (I → IntakeStep → I → Type 0) → I → I → (ℕ → Option ℕ) → (ℕ → Option ℕ) → Folder → Folder → List ℕ → Submitted → Result Fate Halt → Type 0
 Given gives a b old new d e mark s (Ok fate) = Gives gives a b old new d e mark s fate
 Given gives a b old new d e mark s (Err halt) = GivesUp gives a b old new d e s halt
@@ -94,6 +95,7 @@ pub record KeepsGiven {I : Type 0} (gives : I → IntakeStep → I → Type 0) (
   pub some : IsSome (pickup_of mark bytes)
   pub halts : Halts answer halt
 
+-- A file that has its mark's name was done, or the work ended at it.
 abbrev pub Handed : {I : Type 0} → (I → IntakeStep → I → Type 0) → I → I → (ℕ → Option ℕ) → (ℕ → Option ℕ) → Folder → Folder → List ℕ → List ℕ → Result Fate Halt → Type 0
 Handed gives a b old new d e mark stem (Ok fate) = Hands gives a b old new d e mark stem fate
 Handed gives a b old new d e mark stem (Err halt) = Keeps a b old new d e halt ⊎ KeepsGiven gives a b old new d e mark halt

@@ -1,6 +1,6 @@
 -- The work on the files of a pickup folder, one after another. In each definition the intake goes from a to b, the
 -- clock's moments from old to new, and the folder from d to e.
-use Rattle.std.specs.Prelude.{◌≡◌, ℕ, ◌+◌, Bool, true, false, IsTrue, if◌then◌else◌, List, [], ◌∷◌, ◌++◌, map, filter, length, bytes_eq, IsSome, Option, Some, None, unwrap_or, Result, Ok, Err}
+use Rattle.std.specs.Prelude.{◌≡◌, ℕ, ◌+◌, Bool, true, false, IsTrue, if◌then◌else◌, List, [], ◌∷◌, ◌++◌, length, bytes_eq, IsSome, Option, Some, None, unwrap_or, Result, Ok, Err}
 use Rattle.std.specs.List.{flat_map}
 use Rattle.port_io.specs.Told.{Gave}
 use Rattle.mail_submission.specs.Submission.{Submitted}
@@ -57,11 +57,12 @@ submission w = pickup_of (mark_of w.name w.number) w.bytes
 abbrev pub numbers : List ℕ → Result ℕ IntakeFault → List IntakeStep
 numbers name answer = if is_begun name then [] else steps.NextNumber answer ∷ []
 
--- A file that isn't bad is submitted, at a moment of the clock.
+-- A file that isn't bad is submitted.
 abbrev pub submits : Option Submitted → ℕ → Result Accepted IntakeFault → List IntakeStep
 submits None moment answer = []
 submits (Some s) moment answer = steps.Submit s moment answer ∷ []
 
+-- The clock gives the moment for it.
 abbrev pub ticks : Option Submitted → ℕ → List ℕ
 ticks None moment = []
 ticks (Some s) moment = moment ∷ []
@@ -73,7 +74,7 @@ asked w = numbers w.name (Ok w.number) ++ submits (submission w) w.moment (Ok w.
 abbrev pub ticked : Work → List ℕ
 ticked w = ticks (submission w) w.moment
 
--- what became of a file
+-- what became of a file, by what it stands for and what the intake answered
 abbrev pub fate_of : Option Submitted → Accepted → Fate
 fate_of None accepted = fates.Bad
 fate_of (Some s) accepted = if accepted.repeat then fates.Repeat else fates.New
@@ -162,6 +163,7 @@ pub data Stop : Type 0 where
   -- and it was submitted
   Submits : (number : ℕ) (bytes : List ℕ) (moment : ℕ) (answer : Result Accepted IntakeFault) → Stop
 
+-- the intake's steps and the clock's moments for the file at which the work ended
 abbrev pub stop_steps : List ℕ → Stop → List IntakeStep
 stop_steps name (Numbered answer) = steps.NextNumber answer ∷ []
 stop_steps name (Begun number) = numbers name (Ok number)

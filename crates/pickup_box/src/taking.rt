@@ -361,7 +361,11 @@ fn take_all<B: PickupDir, I: Intake, C: Clock>(
 /// `STEM.bad`. A full queue ends the work, and the file stays.
 ///
 /// `Taken` says what was done of which files, which steps the intake made at which moments, and what the folder has
-/// then, where it tells it. At a fault the last file stays, under its name or its mark's.
+/// then, where it tells it.
+///
+/// A fault ends the work, and its file stays, under its name or its mark's: the next call goes on with it, and finds a
+/// repeat where it was submitted. It is the folder's, for which the count of its faults rose, want of memory, or a
+/// refusal of the intake other than a full queue.
 pub fn take_files<B: PickupDir, I: Intake, C: Clock>(
     alloc: Global,
     dir: &mut B,

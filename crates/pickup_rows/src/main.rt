@@ -13,6 +13,7 @@
 //! - A line that is empty or begins with `#` is only printed back.
 #![tactic(auto)]
 
+mod desk;
 mod files;
 mod folders;
 mod octets;
@@ -35,6 +36,7 @@ fn answer(rt: &impl Files, alloc: Global, row: &Row<'_>, out: &mut Answer) -> Re
         "take_files" => takes::take(alloc, row, out),
         "take_many" => takes::take_many(alloc, row, out),
         "take_failing" => takes::take_failing(alloc, row, out),
+        "take_real" => takes::take_real(rt, alloc, row, out),
         "FileDir" => folders::folder(rt, alloc, row, out),
         _ => Err(Fault::BadRow),
     }

@@ -1,132 +1,17 @@
 // The work on whole folders, over an intake that keeps what it was asked.
+use crate::desk::{Desk, refusals_of};
 use crate::octets::Answer;
 use crate::row::{Fault, Row, number};
-use mail_names::{Bytes, NoMemory};
-use mail_submission::{Accepted, Intake, IntakeFault, Origin, Submission};
-use pickup_box::{MemoryDir, PickupEnd, PickupFault, have_own_names, take_files};
+use mail_names::Bytes;
+use mail_submission::IntakeFault;
+use pickup_box::{FileDir, MemoryDir, PickupEnd, PickupFault, have_own_names, take_files};
 use port_io::MemoryClock;
 use std::alloc::Global;
+use std::rt::Files;
+use std::str;
 
 // From how many calls on none is planned to fail.
 const MOST_CALLS: usize = 40;
-
-/// An intake that refuses as the row says, knows marks again, and keeps lines on what it was asked.
-#[derive(Drop)]
-struct Desk {
-    alloc: Global,
-    refusals: Vec<Option<IntakeFault>>,
-    calls: usize,
-    marks: Vec<Bytes>,
-    faults: u64,
-    lines: Vec<Bytes>,
-}
-
-// The refusal that a word of the row names.
-fn refusal_of(word: &[u8]) -> Option<IntakeFault> {
-    match word {
-        b"disk" => Some(IntakeFault::DiskFault),
-        b"memory" => Some(IntakeFault::NoMemory),
-        b"queue" => Some(IntakeFault::QueueFull { live: 1, bytes: 2 }),
-        b"log" => Some(IntakeFault::LogFull { length: 9 }),
-        b"no-log" => Some(IntakeFault::NotALog { at: 8 }),
-        b"desk" => Some(IntakeFault::DeskFull { calls: 2 }),
-        _ => None,
-    }
-}
-
-fn refusals_of(alloc: Global, words: &[u8]) -> Result<Vec<Option<IntakeFault>>, Fault> {
-    let mut refusals = Vec::new(alloc);
-    for word in words.split(|b| *b == b' ') {
-        refusals.push(refusal_of(word))?;
-    }
-    Ok(refusals)
-}
-
-// What a submission is asked as.
-fn line_of(
-    alloc: Global,
-    mark: &[u8],
-    submission: &Submission,
-    clock: u64,
-) -> Result<Bytes, NoMemory> {
-    let keys = submission.recipients().len();
-    let octets = submission.bytes().len();
-    let mut line = Bytes::of(alloc, mark)?;
-    let text = format!(in alloc; " at {clock}: {octets} octets to {keys}")?;
-    line.add(text.as_bytes())?;
-    Ok(line)
-}
-
-impl Desk {
-    fn new(alloc: Global, refusals: Vec<Option<IntakeFault>>) -> Desk {
-        Desk {
-            alloc,
-            refusals,
-            calls: 0,
-            marks: Vec::new(alloc),
-            faults: 0,
-            lines: Vec::new(alloc),
-        }
-    }
-
-    fn next_refusal(&mut self) -> Option<IntakeFault> {
-        let refusal = self.refusals.get(self.calls).copied().unwrap_or(None);
-        self.calls = self.calls.saturating_add(1);
-        refusal
-    }
-
-    // The answer to a mark, which is a repeat where it was asked before.
-    fn taken(&mut self, mark: &[u8]) -> Result<Accepted, NoMemory> {
-        for (place, other) in self.marks.iter().enumerate() {
-            if other.as_slice() == mark {
-                return Ok(Accepted {
-                    number: (place as u64).saturating_add(1),
-                    repeat: true,
-                });
-            }
-        }
-        self.marks.push(Bytes::of(self.alloc, mark)?)?;
-        Ok(Accepted {
-            number: self.marks.len() as u64,
-            repeat: false,
-        })
-    }
-
-    fn ask(&mut self, submission: &Submission, clock: u64) -> Result<Accepted, NoMemory> {
-        let mark = match submission.origin() {
-            Origin::Pickup { mark } => mark.as_slice(),
-            Origin::Smtp => b"",
-        };
-        let line = line_of(self.alloc, mark, submission, clock)?;
-        self.lines.push(line)?;
-        self.taken(mark)
-    }
-}
-
-impl Intake for Desk {
-    ghost disk_faults = { λ s. s.faults };
-
-    ghost gives = { λ s a b. Unit {0} };
-
-    fn submit(&mut self, submission: Submission, clock: u64) -> Result<Accepted, IntakeFault> {
-        if let Some(fault) = self.next_refusal() {
-            self.faults = self.faults.saturating_add(1);
-            return Err(fault);
-        }
-        match self.ask(&submission, clock) {
-            Ok(accepted) => Ok(accepted),
-            Err(NoMemory) => Err(IntakeFault::NoMemory),
-        }
-    }
-
-    fn next_number(&mut self) -> Result<u64, IntakeFault> {
-        if let Some(fault) = self.next_refusal() {
-            self.faults = self.faults.saturating_add(1);
-            return Err(fault);
-        }
-        Ok((self.marks.len() as u64).saturating_add(1))
-    }
-}
 
 // The files that a row's arguments name from this place on, each with its octets behind it.
 fn files_of(alloc: Global, args: &[Bytes]) -> Result<Vec<(Bytes, Bytes)>, Fault> {
@@ -173,23 +58,29 @@ fn fault_text(fault: PickupFault) -> &'static str {
     }
 }
 
+// How the work ended.
+fn end_text(alloc: Global, end: Result<PickupEnd, PickupFault>) -> Result<Bytes, Fault> {
+    let mut text = Bytes::new(alloc);
+    match end {
+        Ok(end) => {
+            let counts = format!(in alloc; "{} accepted, {} bad", end.accepted, end.bad)?;
+            text.add(counts.as_bytes())?;
+            if end.full {
+                text.add(b", full")?;
+            }
+        }
+        Err(fault) => text.add(fault_text(fault).as_bytes())?,
+    }
+    Ok(text)
+}
+
 // How the work ended, and the names that are left.
 fn end_line(
     alloc: Global,
     end: Result<PickupEnd, PickupFault>,
     dir: &MemoryDir,
 ) -> Result<Bytes, Fault> {
-    let mut line = Bytes::new(alloc);
-    match end {
-        Ok(end) => {
-            let text = format!(in alloc; "{} accepted, {} bad", end.accepted, end.bad)?;
-            line.add(text.as_bytes())?;
-            if end.full {
-                line.add(b", full")?;
-            }
-        }
-        Err(fault) => line.add(fault_text(fault).as_bytes())?,
-    }
+    let mut line = end_text(alloc, end)?;
     line.add(b"; left:")?;
     for (name, _) in dir.files() {
         line.add(b" ")?;
@@ -283,5 +174,25 @@ pub fn take_many(alloc: Global, row: &Row<'_>, out: &mut Answer) -> Result<(), F
     let mut dir = folder_of(alloc, files, Bytes::new(alloc))?;
     let mut desk = Desk::new(alloc, Vec::new(alloc));
     take_twice(alloc, &mut dir, &mut desk, out)?;
+    Ok(())
+}
+
+/// What is done of the files of the real folder of the first argument.
+pub fn take_real(
+    rt: &impl Files,
+    alloc: Global,
+    row: &Row<'_>,
+    out: &mut Answer,
+) -> Result<(), Fault> {
+    let Ok(path) = str::from_utf8(row.arg(0)) else {
+        return Err(Fault::BadRow);
+    };
+    let mut dir = FileDir::new(rt, alloc, path)?;
+    let mut desk = Desk::new(alloc, Vec::new(alloc));
+    let end = take_files(alloc, &mut dir, &mut desk, &mut clock_of(alloc)?);
+    out.given(end_text(alloc, end)?.as_slice())?;
+    for line in &desk.lines {
+        out.given(line.as_slice())?;
+    }
     Ok(())
 }

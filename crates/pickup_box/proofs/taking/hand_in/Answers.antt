@@ -1,4 +1,3 @@
-use Rattle.std.proofs.Common.{◌∙◌, ap, Some}
 use Rattle.pickup_box.proofs.Doing.{hands_given, hands_bad}
 use Rattle.pickup_box.proofs.taking.hand_in.Goals as goal
 

@@ -1,4 +1,4 @@
-use Rattle.std.proofs.Common.{◌≡◌, ◌+◌, ◌<◌, List, ℕ, [], length, get_or, take, ap, ◌∙◌, sym, subst, arith}
+use Rattle.std.proofs.Common.{◌≡◌, ◌+◌, ◌<◌, length, get_or, take, ap, ◌∙◌, sym, subst, arith}
 use Rattle.pickup_box.specs.declared.taking.PickupEnd.{PickupEnd}
 use Rattle.pickup_box.proofs.Going.{SoFar, SoFar-push, has_next, ends, counted-full}
 use Rattle.pickup_box.proofs.taking.take_all.Goals as goal
