@@ -1,9 +1,10 @@
 -- Files that are taken away and added.
-use Rattle.std.proofs.Common.{◌≡◌, ℕ, Bool, true, false, cond, List, [], ◌∷◌, ◌++◌, get_or, refl, ap, ◌∙◌, sym, subst}
-use Rattle.std.specs.Prelude.{not, bytes_eq, filter, Option, Some, None}
+use Rattle.std.proofs.Common.{◌≡◌, ℕ, suc, ◌+◌, ◌<◌, Bool, true, false, cond, List, [], ◌∷◌, ◌++◌, length, drop, drop-cons, arith, get_or, refl, ap, ◌∙◌, sym, subst}
+use Rattle.std.specs.Prelude.{not, bytes_eq, filter, is_some, Option, Some, None}
+use Rattle.std.specs.List.{AllByRecursion}
 use Rattle.std.proofs.lemmas.Slice.Eq.{bytes_eq-Decides}
-use Rattle.std.proofs.lemmas.List.Elements.{filter_passes}
-use Rattle.std.proofs.lemmas.List.Kept.{AllPairs-filter}
+use Rattle.std.proofs.lemmas.List.Elements.{filter_passes, All-from_recursion}
+use Rattle.std.proofs.lemmas.List.Kept.{AllPairs-cons, AllPairs-filter}
 use Rattle.std.proofs.lemmas.List.Quantifiers.{all_pairs_push}
 use Rattle.pickup_box.specs.Folder.{File, bytes_in, without, HasNoNameTwice, Removes, Renames}
 
@@ -106,3 +107,34 @@ distinct_renamed name to bytes files after is h =
   where
     other : (m : List ℕ) → not (bytes_eq m to) ≡ true → m ≡ to → ⊥
     other m kept e = (let same : bytes_eq m to ≡ true = (bytes_eq-Decides m to).1 e in let no : not (bytes_eq m to) ≡ false = ap not same in cc)
+
+misses_all : (n : List ℕ) (files : List File) → bytes_in files n ≡ None → AllByRecursion (λ (f : File). n ≡ f.0 → ⊥) files
+misses_all n [] h = tt
+misses_all n (file ∷ files) h = by (bytes_eq n file.0) refl h (misses_all n files)
+  where
+    other : bytes_eq n file.0 ≡ false → n ≡ file.0 → ⊥
+    other e same = (let is : bytes_eq n file.0 ≡ true = (bytes_eq-Decides n file.0).1 same in let no_way : true ≡ false = sym is ∙ e in absurd cc)
+
+    by : (t : Bool) → bytes_eq n file.0 ≡ t → cond t (Some file.1) (bytes_in files n) ≡ None → (bytes_in files n ≡ None → AllByRecursion (λ (f : File). n ≡ f.0 → ⊥) files) →
+        AllByRecursion (λ (f : File). n ≡ f.0 → ⊥) (file ∷ files)
+    by true e none more = absurd cc
+    by false e none more = (other e, more none)
+
+pub distinct_more : (file : File) (files : List File) → bytes_in files file.0 ≡ None → HasNoNameTwice files → HasNoNameTwice (file ∷ files)
+distinct_more file files none h =
+    AllPairs-cons (λ (a b : File). a.0 ≡ b.0 → ⊥) file files (All-from_recursion (λ (f : File). file.0 ≡ f.0 → ⊥) files (misses_all file.0 files none)) h
+
+-- one file more, which has a name of its own
+pub own_more : (files rest : List File) (i : ℕ) (file : File) (name : List ℕ) → i < length files → file ≡ get_or files i file → rest ≡ drop (i + 1) files → name ≡ file.0 → is_some (bytes_in rest name) ≡ false →
+    HasNoNameTwice (drop (i + 1) files) → HasNoNameTwice (drop i files)
+own_more files rest i file name lt here behind named none h =
+    let split : drop i files ≡ file ∷ drop (i + 1) files = drop-cons files i file lt ∙ ap (λ (f : File). f ∷ drop (suc i) files) (sym here) ∙ ap (λ k. file ∷ drop k files) next in
+    let alone : bytes_in (drop (i + 1) files) file.0 ≡ None = is_none (bytes_in (drop (i + 1) files) file.0) (ap (λ fs. is_some (bytes_in fs file.0)) (sym behind) ∙ ap (λ n. is_some (bytes_in rest n)) (sym named) ∙ none) in
+    subst HasNoNameTwice (sym split) (distinct_more file (drop (i + 1) files) alone h)
+  where
+    next : suc i ≡ i + 1
+    next = omega arith
+
+    is_none : (o : Option (List ℕ)) → is_some o ≡ false → o ≡ None
+    is_none None e = refl
+    is_none (Some x) e = absurd cc

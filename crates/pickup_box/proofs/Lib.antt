@@ -5,3 +5,9 @@ pub mod Addressing
 pub mod Filing
 pub mod Joining
 pub mod Naming
+pub mod Sparing
+pub mod Lengthy
+pub mod Doing
+pub mod Going
+pub mod Marking
+pub mod Repeating

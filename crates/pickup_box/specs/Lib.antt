@@ -6,3 +6,6 @@ pub mod FileNames
 pub mod Folder
 pub mod MemoryDir
 pub mod FileDir
+pub mod Works
+pub mod Taking
+pub mod Parts

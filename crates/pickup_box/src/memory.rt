@@ -1,5 +1,5 @@
 // A pickup folder in memory.
-ghost use Rattle.std.specs.Prelude.{◌≡◌, ◌+◌, ◌≤◌, not, take, bytes_eq, option_copied, vec_len, vec_capacity, IsSome, IsPermutation, IfOk, OnOk, OnErr};
+ghost use Rattle.std.specs.Prelude.{◌≡◌, ◌+◌, ◌≤◌, not, take, bytes_eq, option_copied, vec_len, vec_capacity, is_some, IsSome, IsTrue, IsPermutation, IfOk, OnOk, OnErr};
 ghost use Rattle.pickup_box.specs.Folder.{bytes_in, without, names_of, HasNoNameTwice, IsAscending, Removes, Renames};
 
 use crate::folder::{DirFault, PickupDir};
@@ -28,6 +28,26 @@ fn bytes_in<'a>(files: &'a [(Bytes, Bytes)], name: &[u8]) -> Option<&'a [u8]>
         }
     }
     None
+}
+
+fn has_file(files: &[(Bytes, Bytes)], name: &[u8]) -> bool
+    ensures { result ≡ is_some (bytes_in files.now name.now) }
+{
+    bytes_in(files, name).is_some()
+}
+
+/// Whether each of these files has a name of its own, as a `MemoryDir` wants it.
+pub fn have_own_names(files: &[(Bytes, Bytes)]) -> bool
+    ensures { IsTrue result → HasNoNameTwice files.now }
+{
+    let mut i = 0;
+    while i < files.len() {
+        if has_file(&files[i + 1..], files[i].0.as_slice()) {
+            return false;
+        }
+        i += 1;
+    }
+    true
 }
 
 // Takes away the files of this name. The room stays.

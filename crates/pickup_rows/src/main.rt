@@ -13,10 +13,12 @@
 //! - A line that is empty or begins with `#` is only printed back.
 #![tactic(auto)]
 
+mod desk;
 mod files;
 mod folders;
 mod octets;
 mod row;
+mod takes;
 
 use crate::octets::Answer;
 use crate::row::{Fault, Row, read_row};
@@ -31,6 +33,10 @@ fn answer(rt: &impl Files, alloc: Global, row: &Row<'_>, out: &mut Answer) -> Re
         "order_of" => files::order(alloc, row, out),
         "stem" => files::stem(row, out),
         "later_names" => files::later_names(alloc, row, out),
+        "take_files" => takes::take(alloc, row, out),
+        "take_many" => takes::take_many(alloc, row, out),
+        "take_failing" => takes::take_failing(alloc, row, out),
+        "take_real" => takes::take_real(rt, alloc, row, out),
         "FileDir" => folders::folder(rt, alloc, row, out),
         _ => Err(Fault::BadRow),
     }
