@@ -8,6 +8,7 @@ use Rattle.std.proofs.lemmas.List.Concat.{flat_map-append}
 use Rattle.port_io.specs.Told.{Gave, Tells as Tells'}
 use Rattle.mail_submission.specs.Submission.{Submitted}
 use Rattle.mail_submission.specs.declared.intake.IntakeFault.{IntakeFault}
+use Rattle.mail_submission.specs.declared.intake.NumberFault.{NumberFault}
 use Rattle.mail_submission.specs.declared.intake.IntakeStep.{IntakeStep}
 use Rattle.mail_submission.specs.declared.intake.IntakeStep.TheVariants as steps
 use Rattle.pickup_box.specs.FileNames.{begun_stem, new_stem, is_begun, begun_name, bad_name}
@@ -113,10 +114,10 @@ mark_begun name k h = ap (λ t. cond t name (begun_name (stem_of name) k)) h
 mark_new : (name : List ℕ) (k : ℕ) → is_begun name ≡ false → mark_of name k ≡ begun_name (stem_of name) k
 mark_new name k h = ap (λ t. cond t name (begun_name (stem_of name) k)) h
 
-numbers_begun : (name : List ℕ) (answer : Result ℕ IntakeFault) → is_begun name ≡ true → numbers name answer ≡ []
+numbers_begun : (name : List ℕ) (answer : Result ℕ NumberFault) → is_begun name ≡ true → numbers name answer ≡ []
 numbers_begun name answer h = ap (λ t. cond t [] (steps.NextNumber answer ∷ [])) h
 
-numbers_new : (name : List ℕ) (answer : Result ℕ IntakeFault) → is_begun name ≡ false → numbers name answer ≡ steps.NextNumber answer ∷ []
+numbers_new : (name : List ℕ) (answer : Result ℕ NumberFault) → is_begun name ≡ false → numbers name answer ≡ steps.NextNumber answer ∷ []
 numbers_new name answer h = ap (λ t. cond t [] (steps.NextNumber answer ∷ [])) h
 
 -- A file under its mark: how it came to that name, and what of it was asked before.

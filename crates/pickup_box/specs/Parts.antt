@@ -5,12 +5,13 @@ use Rattle.port_io.specs.Told.{Gave}
 use Rattle.mail_submission.specs.Submission.{Submitted}
 use Rattle.mail_submission.specs.declared.intake.Accepted.{Accepted}
 use Rattle.mail_submission.specs.declared.intake.IntakeFault.{IntakeFault}
+use Rattle.mail_submission.specs.declared.intake.NumberFault.{NumberFault}
 use Rattle.mail_submission.specs.declared.intake.IntakeStep.{IntakeStep}
 use Rattle.mail_submission.specs.declared.intake.IntakeStep.TheVariants as steps
 use Rattle.pickup_box.specs.FileNames.{begun_name}
 use Rattle.pickup_box.specs.Folder.{Folder, bytes_in, Tells, Stays}
 use Rattle.pickup_box.specs.PickupOf.{pickup_of}
-use Rattle.pickup_box.specs.Works.{Work, Did, Stops, Steps, Becomes, moved, put, submits, ticks, fate, fate_of, IsOwn, Halts}
+use Rattle.pickup_box.specs.Works.{Work, Did, Stops, Steps, Becomes, moved, put, submits, ticks, fate, fate_of, IsOwn, Halts, NumberHalts}
 use Rattle.pickup_box.specs.declared.taking.PickupFault.{PickupFault}
 use Rattle.pickup_box.specs.declared.taking.Halt.{Halt}
 use Rattle.pickup_box.specs.declared.taking.Halt.TheVariants as halts
@@ -35,7 +36,7 @@ abbrev pub Begins : {I : Type 0} → (I → IntakeStep → I → Type 0) → I �
 Begins gives a b d e name stem (Ok mark) =
     (number : ℕ) × gives a (steps.NextNumber (Ok number)) b × (mark ≡ begun_name stem number) × Tells (Becomes (moved name mark)) d e
 Begins gives a b d e name stem (Err halt) =
-    (answer : Result ℕ IntakeFault) × gives a (steps.NextNumber answer) b × Halts answer halt × Tells Stays d e
+    (answer : Result ℕ NumberFault) × gives a (steps.NextNumber answer) b × NumberHalts answer halt × Tells Stays d e
 
 -- What the file of this mark stands for.
 abbrev pub Stands : Folder → Folder → List ℕ → Result (Option Submitted) PickupFault → Type 0

@@ -7,6 +7,8 @@ use Rattle.mail_submission.specs.Submission.{Submitted}
 use Rattle.mail_submission.specs.declared.intake.Accepted.{Accepted}
 use Rattle.mail_submission.specs.declared.intake.IntakeFault.{IntakeFault}
 use Rattle.mail_submission.specs.declared.intake.IntakeFault.TheVariants as faults
+use Rattle.mail_submission.specs.declared.intake.NumberFault.{NumberFault}
+use Rattle.mail_submission.specs.declared.intake.NumberFault.TheVariants as number_faults
 use Rattle.mail_submission.specs.declared.intake.IntakeStep.{IntakeStep}
 use Rattle.mail_submission.specs.declared.intake.IntakeStep.TheVariants as steps
 use Rattle.pickup_box.specs.FileNames.{begun_stem, new_stem, is_begun, begun_name, bad_name}
@@ -54,7 +56,7 @@ abbrev pub submission : Work → Option Submitted
 submission w = pickup_of (mark_of w.name w.number) w.bytes
 
 -- The number of a new file is asked.
-abbrev pub numbers : List ℕ → Result ℕ IntakeFault → List IntakeStep
+abbrev pub numbers : List ℕ → Result ℕ NumberFault → List IntakeStep
 numbers name answer = if is_begun name then [] else steps.NextNumber answer ∷ []
 
 -- A file that isn't bad is submitted.
@@ -137,6 +139,13 @@ halt_of (faults.LogFull length) = halts.Fault (causes.Intake (faults.LogFull len
 halt_of (faults.NotALog at) = halts.Fault (causes.Intake (faults.NotALog at))
 halt_of (faults.DeskFull calls) = halts.Fault (causes.Intake (faults.DeskFull calls))
 
+-- and by one of the next number
+abbrev pub number_halt : NumberFault → Halt
+number_halt number_faults.DiskFault = halts.Fault (causes.Intake faults.DiskFault)
+number_halt number_faults.NoMemory = halts.Fault causes.NoMemory
+number_halt (number_faults.NotALog at) = halts.Fault (causes.Intake (faults.NotALog at))
+number_halt (number_faults.DeskFull calls) = halts.Fault (causes.Intake (faults.DeskFull calls))
+
 -- what the work comes to that ends so, with these counts
 abbrev pub ended : PickupEnd → Halt → Result PickupEnd PickupFault
 ended end halts.Full = Ok (record end { full = true })
@@ -150,14 +159,18 @@ IsOwn (halts.Fault causes.NoMemory) = Unit {0}
 IsOwn (halts.Fault (causes.Intake e)) = ⊥
 
 -- The work ended by the intake's refusal, or behind another answer by the folder or for want of memory.
-abbrev pub Halts : {T : Type 0} → Result T IntakeFault → Halt → Type 0
-Halts (Ok x) halt = IsOwn halt
-Halts (Err e) halt = halt ≡ halt_of e
+abbrev pub Halts : Result Accepted IntakeFault → Halt → Type 0
+Halts (Ok accepted) halt = IsOwn halt
+Halts (Err fault) halt = halt ≡ halt_of fault
+
+abbrev pub NumberHalts : Result ℕ NumberFault → Halt → Type 0
+NumberHalts (Ok number) halt = IsOwn halt
+NumberHalts (Err fault) halt = halt ≡ number_halt fault
 
 -- How far the work on the file came at which it ended.
 pub data Stop : Type 0 where
   -- a new one's number was asked, and it has its name
-  Numbered : (answer : Result ℕ IntakeFault) → Stop
+  Numbered : (answer : Result ℕ NumberFault) → Stop
   -- it has its mark's name
   Begun : (number : ℕ) → Stop
   -- and it was submitted
@@ -182,7 +195,7 @@ stop_files name (Submits number bytes moment answer) files = moved name (mark_of
 
 -- why the work ended there
 abbrev pub Stopped : List ℕ → Stop → Halt → Type 0
-Stopped name (Numbered answer) halt = (is_begun name ≡ false) × Halts answer halt
+Stopped name (Numbered answer) halt = (is_begun name ≡ false) × NumberHalts answer halt
 Stopped name (Begun number) halt = IsOwn halt
 Stopped name (Submits number bytes moment answer) halt = IsSome (pickup_of (mark_of name number) bytes) × Halts answer halt
 

@@ -5,7 +5,7 @@ ghost use Rattle.mail_submission.specs.Submission.{Submitted};
 ghost use Rattle.pickup_box.specs.declared.taking.PickupFault.{PickupFault};
 ghost use Rattle.pickup_box.specs.FileNames.{begun_stem, new_stem, begun_name, bad_name};
 ghost use Rattle.pickup_box.specs.Folder.{Has};
-ghost use Rattle.pickup_box.specs.Works.{halt_of, moved, fate_of, IsOwn, counted, ended};
+ghost use Rattle.pickup_box.specs.Works.{halt_of, number_halt, moved, fate_of, IsOwn, counted, ended};
 ghost use Rattle.pickup_box.specs.Taking.{InOrder, Goes, Taken};
 ghost use Rattle.pickup_box.specs.Parts.{Does, Marks, Begins, Stands, Given, Handed, Took};
 
@@ -14,7 +14,7 @@ use crate::folder::{DirFault, PickupDir};
 use crate::pickup::{PickupBad, pickup_of};
 use mail_message::MOST_OCTETS;
 use mail_names::{Bytes, NoMemory};
-use mail_submission::{Accepted, Intake, IntakeFault, Submission};
+use mail_submission::{Accepted, Intake, IntakeFault, NumberFault, Submission};
 use port_io::Clock;
 use std::alloc::Global;
 
@@ -90,6 +90,26 @@ fn halt_of(fault: IntakeFault) -> Halt
             fault: PickupFault::Intake { fault },
         },
     }
+}
+
+fn number_halt(fault: NumberFault) -> Halt
+    ensures value { result ≡ number_halt fault }
+    ensures folder { result ≡ Halt.Fault PickupFault.Folder → ⊥ }
+    ensures disk { result ≡ Halt.Fault (PickupFault.Intake IntakeFault.DiskFault) → fault ≡ NumberFault.DiskFault }
+{
+    let fault = match fault {
+        NumberFault::DiskFault => PickupFault::Intake {
+            fault: IntakeFault::DiskFault,
+        },
+        NumberFault::NoMemory => PickupFault::NoMemory,
+        NumberFault::NotALog { at } => PickupFault::Intake {
+            fault: IntakeFault::NotALog { at },
+        },
+        NumberFault::DeskFull { calls } => PickupFault::Intake {
+            fault: IntakeFault::DeskFull { calls },
+        },
+    };
+    Halt::Fault { fault }
 }
 
 fn fate_of(accepted: Accepted) -> Fate
@@ -181,7 +201,7 @@ fn begin<B: PickupDir, I: Intake>(
 {
     let number = match intake.next_number() {
         Ok(number) => number,
-        Err(fault) => return Err(halt_of(fault)),
+        Err(fault) => return Err(number_halt(fault)),
     };
     match rename_begun(alloc, dir, name, stem, number) {
         Ok(mark) => Ok(mark),

@@ -1,7 +1,7 @@
 // An intake for the work on whole folders.
 use crate::row::Fault;
 use mail_names::{Bytes, NoMemory};
-use mail_submission::{Accepted, Intake, IntakeFault, Origin, Submission};
+use mail_submission::{Accepted, Intake, IntakeFault, NumberFault, Origin, Submission};
 use std::alloc::Global;
 
 /// An intake that refuses as the row says, knows marks again, and keeps lines on what it was asked.
@@ -25,6 +25,18 @@ fn refusal_of(word: &[u8]) -> Option<IntakeFault> {
         b"no-log" => Some(IntakeFault::NotALog { at: 8 }),
         b"desk" => Some(IntakeFault::DeskFull { calls: 2 }),
         _ => None,
+    }
+}
+
+// The refusal of a number. A full queue or log is none.
+fn number_fault(fault: IntakeFault) -> NumberFault {
+    match fault {
+        IntakeFault::DiskFault => NumberFault::DiskFault,
+        IntakeFault::NotALog { at } => NumberFault::NotALog { at },
+        IntakeFault::DeskFull { calls } => NumberFault::DeskFull { calls },
+        IntakeFault::NoMemory | IntakeFault::QueueFull { .. } | IntakeFault::LogFull { .. } => {
+            NumberFault::NoMemory
+        }
     }
 }
 
@@ -114,10 +126,10 @@ impl Intake for Desk {
         }
     }
 
-    fn next_number(&mut self) -> Result<u64, IntakeFault> {
+    fn next_number(&mut self) -> Result<u64, NumberFault> {
         if let Some(fault) = self.next_refusal() {
             self.faults = self.faults.saturating_add(1);
-            return Err(fault);
+            return Err(number_fault(fault));
         }
         Ok((self.marks.len() as u64).saturating_add(1))
     }
