@@ -65,6 +65,8 @@ fn line_of(
 }
 
 impl Desk {
+    ghost use Rattle.std.specs.Prelude.{◌≡◌};
+
     pub fn new(alloc: Global, refusals: Vec<Option<IntakeFault>>) -> Desk {
         Desk {
             alloc,
@@ -76,14 +78,18 @@ impl Desk {
         }
     }
 
-    fn next_refusal(&mut self) -> Option<IntakeFault> {
+    fn next_refusal(&mut self) -> Option<IntakeFault>
+        ensures { self.new.faults ≡ self.old.faults }
+    {
         let refusal = self.refusals.get(self.calls).copied().unwrap_or(None);
         self.calls = self.calls.saturating_add(1);
         refusal
     }
 
     // The answer to a mark, which is a repeat where it was asked before.
-    fn taken(&mut self, mark: &[u8]) -> Result<Accepted, NoMemory> {
+    fn taken(&mut self, mark: &[u8]) -> Result<Accepted, NoMemory>
+        ensures { self.new.faults ≡ self.old.faults }
+    {
         for (place, other) in self.marks.iter().enumerate() {
             if other.as_slice() == mark {
                 return Ok(Accepted {
@@ -99,7 +105,9 @@ impl Desk {
         })
     }
 
-    fn ask(&mut self, submission: &Submission, clock: u64) -> Result<Accepted, NoMemory> {
+    fn ask(&mut self, submission: &Submission, clock: u64) -> Result<Accepted, NoMemory>
+        ensures { self.new.faults ≡ self.old.faults }
+    {
         let mark = match submission.origin() {
             Origin::Pickup { mark } => mark.as_slice(),
             Origin::Smtp => b"",
