@@ -171,7 +171,8 @@ impl Plant for MemoryPlant {
         ensures as_planned { FileFailsAsPlanned self.old self.new result }
         ensures refused { OnErr result (Reads (state_of self.old) (state_of self.new)) }
     {
-        if !self.failures.calls.next() {
+        let planned = self.failures.calls.next();
+        if !planned {
             match self.history.write(self.alloc, at, bytes) {
                 Ok(()) => return Ok(()),
                 Err(NoMemory) => self.starved = self.starved.saturating_add(1),
@@ -216,7 +217,8 @@ impl Plant for MemoryPlant {
         ensures refused { IsTrue (next_fails (calls_ahead self.old)) → Reads (state_of self.old) (state_of self.new) }
         ensures by_folder { next_fails (calls_ahead self.old) ≡ false → PutsAsPlanned (failing_by (folder_plans self.old) folder.now) (item_of folder.now name.now bytes.now) result (state_of self.old) (state_of self.new) }
     {
-        if self.failures.calls.next() {
+        let planned = self.failures.calls.next();
+        if planned {
             self.shelf_faults = self.shelf_faults.saturating_add(1);
             return Err(ShelfFault::Failed);
         }

@@ -10,6 +10,7 @@
 //!   crash leaves.
 //! - `open MOST` opens a log of so many octets at most, `append MOMENT` and `deliver NAME` append entries, and `entries`
 //!   counts the entries that a log has.
+//! - `moments SECONDS SECONDS` asks a clock in memory that has these moments three times.
 //! - `images SHIFT` says whether images of a crash have one entry, and two; `damage OCTETS` changes and cuts a log at each
 //!   octet.
 #![tactic(auto)]

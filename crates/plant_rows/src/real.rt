@@ -3,7 +3,7 @@ ghost use Rattle.std.specs.Prelude.{◌<◌};
 
 use crate::octets::{answer, answer_octets, cut};
 use mail_names::{Bytes, NoMemory};
-use port_io::{Clock, ReaderSource, Sink, Source, StdClock, WriterSink, write_all_to};
+use port_io::{Clock, MemoryClock, ReaderSource, Sink, Source, StdClock, WriterSink, write_all_to};
 use std::alloc::Global;
 use std::fs::{self, File};
 use std::io;
@@ -23,6 +23,18 @@ fn clear(rt: &HostRuntime, path: &str) -> io::Result<()> {
 fn is_past(rt: &HostRuntime) -> io::Result<bool> {
     let mut clock = StdClock::new(rt.clone()?);
     Ok(clock.now() > YEAR_2020)
+}
+
+// What a clock in memory gives that has these moments, asked three times.
+fn add_moments(alloc: Global, words: &str, out: &mut Bytes) -> Result<(), NoMemory> {
+    let mut moments = Vec::new(alloc);
+    for word in words.split_whitespace() {
+        moments.push(word.parse::<u64>().unwrap_or(0))?;
+    }
+    let mut clock = MemoryClock::new(moments);
+    let (first, second, third) = (clock.now(), clock.now(), clock.now());
+    let line = format!(in alloc; "{first} {second} {third}")?;
+    answer(out, line.as_str())
 }
 
 // Reads the front of a file through a source.
@@ -79,6 +91,7 @@ pub fn on_real(
             let line = format!(in alloc; "{:?}", is_past(rt))?;
             answer(out, line.as_str())?;
         }
+        "moments" => add_moments(alloc, rest, out)?,
         "source" => add_source(rt, rest, out)?,
         "file" => add_file(rt, rest, out)?,
         "sink" => {
