@@ -61,7 +61,8 @@ class Sampler:
         name = words[words.index("--crate-name") + 1]
         is_edit = "rt-edit" in os.readlink(f"/proc/{pid}/cwd")
         kind = "edits" if is_edit else "tests" if "--test" in words else "library"
-        ticks = sum(int(it) for it in fields[11:15])
+        # its own alone: a check forks copies of itself, which are seen here too
+        ticks = sum(int(it) for it in fields[11:13])
         memory = int(fields[21]) * PAGE
         key = pid, fields[19]
         _, _, _, before = self.seen.get(key, (name, kind, 0, 0))

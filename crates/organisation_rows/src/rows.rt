@@ -8,23 +8,37 @@ use crate::wrong::Wrong;
 use crate::{
     blocks, book_rows, directory_rows, group_rows, journal_rows, reading_rows, rule_rows, run_rows,
 };
-use std::alloc::{AllocError, Global};
+use org_directory::Directory;
+use std::alloc::Global;
 
-// Rows that ask of the directory.
-fn ask_directory(
+// Rows that ask of an object of the directory.
+fn ask_object(
     alloc: Global,
-    desk: &Desk,
+    directory: &Directory,
     word: &str,
     row: &str,
     out: &mut String,
 ) -> Result<bool, Wrong> {
-    let directory = &desk.directory;
     match word {
         "size" => add_count(out, directory.len() as u64)?,
         "find" => directory_rows::find(alloc, directory, row, out)?,
         "members" => directory_rows::members(alloc, directory, row, out)?,
         "in-group" => directory_rows::in_group(alloc, directory, row, out)?,
         "needs-approval" => directory_rows::approval(alloc, directory, row, out)?,
+        _ => return Ok(false),
+    }
+    Ok(true)
+}
+
+// Rows that ask for an expansion.
+fn ask_expansion(
+    alloc: Global,
+    directory: &Directory,
+    word: &str,
+    row: &str,
+    out: &mut String,
+) -> Result<bool, Wrong> {
+    match word {
         "expand" => group_rows::expanded(alloc, directory, row, out)?,
         "walk" => group_rows::walk(alloc, directory, row, out)?,
         "depths" => group_rows::depths(alloc, directory, row, out)?,
@@ -77,7 +91,10 @@ fn ask_rules(
 }
 
 fn ask(alloc: Global, desk: &Desk, word: &str, row: &str, out: &mut String) -> Result<bool, Wrong> {
-    if ask_directory(alloc, desk, word, row, out)? {
+    if ask_object(alloc, &desk.directory, word, row, out)? {
+        return Ok(true);
+    }
+    if ask_expansion(alloc, &desk.directory, word, row, out)? {
         return Ok(true);
     }
     if ask_text(alloc, desk, word, row, out)? {

@@ -48,6 +48,14 @@ impl From<HubFault> for Fault {
     }
 }
 
+/// The number of a row.
+pub fn number(digits: &str) -> Result<u64, Fault> {
+    match digits.parse::<u64>() {
+        Ok(number) => Ok(number),
+        Err(_) => Err(Fault::NoRow),
+    }
+}
+
 /// Lines that are to be printed.
 #[derive(Drop)]
 pub struct Answer {

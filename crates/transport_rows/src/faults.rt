@@ -1,5 +1,5 @@
 // Sessions that disk faults meet, and what crashes leave of them.
-use crate::answer::{Answer, Fault};
+use crate::answer::{Answer, Fault, number};
 use crate::mails::talk;
 use mail_names::{Bytes, ItemName, Key};
 use mail_transport::Status;
@@ -107,13 +107,16 @@ fn accepted(replies: &Answer) -> u64 {
 
 // Whether one of these items is of this submission, and no other is.
 fn has_one(names: &[ItemName], number: u64) -> bool {
-    let mut count = 0u64;
+    let mut is_found = false;
     for name in names {
         if name.submission == number {
-            count = count.saturating_add(1);
+            if is_found {
+                return false;
+            }
+            is_found = true;
         }
     }
-    count == 1
+    is_found
 }
 
 // Whether one of these items is of each submission that these replies accept, and no other is.
@@ -316,8 +319,7 @@ pub fn add_faults(
     let mut whole = whole_of(alloc, load)?;
     add_whole(alloc, &mut whole, &load.folders, out)?;
     for gap in gaps.split(',') {
-        let gap = gap.parse::<u64>().map_err(|_| Fault::NoRow)?;
-        add_gap(alloc, load, calls, gap, &mut whole, out)?;
+        add_gap(alloc, load, calls, number(gap)?, &mut whole, out)?;
     }
     let past = is_past(alloc, load, calls, &mut whole)?;
     out.line(if past { "no more calls" } else { "more calls" })

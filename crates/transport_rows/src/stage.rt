@@ -1,5 +1,5 @@
 // What a script has set up.
-use crate::answer::{Answer, Fault};
+use crate::answer::{Answer, Fault, number};
 use crate::calls::{add_folder, commit, decide, organise, submit, turn};
 use crate::crowd::add_crowd;
 use crate::faults::{Load, add_faults};
@@ -23,10 +23,6 @@ pub struct Stage {
     directory: Bytes,
     rules: Bytes,
     said: Bytes,
-}
-
-fn number(digits: &str) -> Result<u64, Fault> {
-    digits.parse::<u64>().map_err(|_| Fault::NoRow)
 }
 
 fn limits(words: &str) -> Result<Limits, Fault> {

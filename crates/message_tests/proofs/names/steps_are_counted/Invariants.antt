@@ -1,5 +1,0 @@
--- The ledger that the blank opens.
-use Rattle.message_tests.proofs.names.steps_are_counted.Given as goal
-
-abbrev pub ghosts-count_two : goal.ghosts-count_two
-ghosts-count_two a = record { name = a.blank.name; parts = a.blank.parts }
