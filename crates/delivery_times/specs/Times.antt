@@ -1,5 +1,6 @@
 -- When an item is tried, and how long. Ages are in seconds.
 use Rattle.std.specs.Prelude.{ℕ, ◌+◌, ◌-◌, ◌/◌, min, max, nat_le, nat_lt, Bool, if◌then◌else◌}
+use Rattle.delivery_times.specs.declared.times.TheConstants.{TRY_TIME, DELAY_TIME, MEMORY_TIME}
 use Rattle.delivery_times.specs.declared.times.Age.{Age}
 use Rattle.delivery_times.specs.declared.times.Age.TheVariants as ages
 
@@ -12,12 +13,12 @@ abbrev pub is_due_again : ℕ → ℕ → ℕ → Bool
 is_due_again made last moment = nat_lt last (slot (moment - made))
 
 abbrev pub age_of : ℕ → Age
-age_of age = if nat_le 172800 age then ages.Expired else if nat_le 14400 age then ages.Late else ages.Fresh
+age_of age = if nat_le TRY_TIME age then ages.Expired else if nat_le DELAY_TIME age then ages.Late else ages.Fresh
 
 -- the moment at which the last of its tries may be
 abbrev pub tried_until : ℕ → ℕ
-tried_until made = made + 172800
+tried_until made = made + TRY_TIME
 
 -- A submission that was accepted then may be forgotten at a moment.
 abbrev pub is_old : ℕ → ℕ → Bool
-is_old accepted_at moment = nat_le 691200 (moment - accepted_at)
+is_old accepted_at moment = nat_le MEMORY_TIME (moment - accepted_at)
