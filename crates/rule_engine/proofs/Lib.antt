@@ -2,5 +2,8 @@ pub mod Falling
 pub mod Growing
 pub mod Indexing
 pub mod Noting
+pub mod Parting
 pub mod Placing
+pub mod Rendering
+pub mod Stepping
 pub mod Offered

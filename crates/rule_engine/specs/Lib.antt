@@ -1,5 +1,9 @@
+pub mod Edits
 pub mod Fate
+pub mod Forks
 pub mod Gates
 pub mod Growth
 pub mod Index
+pub mod Parted
+pub mod Rendered
 pub mod Run

@@ -1,12 +1,14 @@
 // What becomes of one recipient.
-ghost use Rattle.std.specs.Prelude.{◌≡◌, ◌≤◌, ℕ, List, Option, true, length, IfOk, OnOk, option_copied};
+ghost use Rattle.std.specs.Prelude.{◌≡◌, ◌≤◌, ◌++◌, ℕ, List, Option, true, length, IfOk, OnOk, option_copied};
 ghost use Rattle.std.specs.List.{list_all};
 ghost use Rattle.org_directory.specs.Register.{among};
 ghost use Rattle.mail_names.specs.declared.gate.Gate.{Gate};
 ghost use Rattle.rule_terms.specs.Forms.{is_action, is_rule};
 ghost use Rattle.rule_engine.specs.Gates.{opens, is_opened};
+ghost use Rattle.rule_engine.specs.Edits.{is_edit, edit_if, action_edits, rule_edits, edits};
 ghost use Rattle.rule_engine.specs.Fate.{stage, side, is_one_of, now, with_copy, after_effect, disclaim, act, after_actions, after_rule, fate};
 
+use crate::edit::{EditAt, is_edit};
 use mail_message::{Message, Place};
 use mail_names::{Bytes, Gate, Items, Key, NoMemory};
 use org_directory::Directory;
@@ -49,6 +51,13 @@ pub struct RuleOutcome {
     pub end: End,
 }
 
+/// What becomes of a recipient, and the edits that are done for it, in order.
+#[derive(Drop)]
+pub struct Traced {
+    pub outcome: RuleOutcome,
+    pub edits: Items<EditAt>,
+}
+
 fn is_gate_of(rule: u32, gate: &Gate) -> bool
     ensures { result ≡ opens rule gate.now }
 {
@@ -79,7 +88,7 @@ fn is_one_of(sender: Option<&Key>, keys: &[Key]) -> bool
     }
 }
 
-fn side(before: bool) -> Place
+pub fn side(before: bool) -> Place
     ensures { result ≡ side before }
 {
     if before { Place::Before } else { Place::After }
@@ -194,7 +203,27 @@ fn do_action(
     }
 }
 
-// Does the actions of a rule.
+// Notes an action where it is an edit of this message.
+fn note_edit(
+    alloc: Global,
+    rule: u32,
+    place: u32,
+    action: &Action,
+    message: &Message,
+    edits: &mut Items<EditAt>,
+) -> Result<(), NoMemory>
+    ensures { OnOk result (edits.new ≡ edits.old ++ edit_if (is_edit action.now message.now) rule place) }
+{
+    if is_edit(alloc, action, message)? {
+        edits.push(EditAt {
+            rule,
+            action: place,
+        })?;
+    }
+    Ok(())
+}
+
+// Does the actions of a rule, and notes which of them are edits.
 fn do_actions(
     alloc: Global,
     sender: Option<&Key>,
@@ -202,12 +231,17 @@ fn do_actions(
     rule: u32,
     actions: &[Action],
     progress: &mut Progress,
+    edits: &mut Items<EditAt>,
 ) -> Result<Option<End>, NoMemory>
-    requires { list_all is_action actions.now ≡ true }
-    ensures { IfOk result (λ end. stage progress.new end ≡
+    requires few { length actions.now ≤ 16 }
+    requires form { list_all is_action actions.now ≡ true }
+    ensures stage { IfOk result (λ end. stage progress.new end ≡
         after_actions (option_copied sender.entry) opened.now rule actions.now progress.old) }
+    ensures edits { OnOk result (edits.new ≡
+        edits.old ++ action_edits (option_copied sender.entry) opened.now rule 0 actions.now progress.old) }
 {
-    for action in actions {
+    for (i, action) in actions.iter().enumerate() {
+        note_edit(alloc, rule, i as u32, action, &progress.message, edits)?;
         if let Some(end) = do_action(alloc, sender, opened, rule, action, progress)? {
             return Ok(Some(end));
         }
@@ -226,10 +260,13 @@ fn do_rule(
     place: u32,
     rule: &Rule,
     progress: &mut Progress,
+    edits: &mut Items<EditAt>,
 ) -> Result<Option<End>, NoMemory>
     requires { is_rule rule.now ≡ true }
-    ensures { IfOk result (λ end. stage progress.new end ≡
+    ensures stage { IfOk result (λ end. stage progress.new end ≡
         after_rule (record { directory = directory.now; sender = option_copied sender.entry; moment = moment }) opened.now recipient.now place rule.now progress.old) }
+    ensures edits { OnOk result (edits.new ≡ edits.old ++
+        rule_edits (record { directory = directory.now; sender = option_copied sender.entry; moment = moment }) opened.now recipient.now place rule.now progress.old) }
 {
     if !applies(
         alloc,
@@ -243,7 +280,7 @@ fn do_rule(
         return Ok(None);
     }
     let actions = rule.actions.as_slice();
-    if let Some(end) = do_actions(alloc, sender, opened, place, actions, progress)? {
+    if let Some(end) = do_actions(alloc, sender, opened, place, actions, progress, edits)? {
         return Ok(Some(end));
     }
     if rule.stop {
@@ -253,8 +290,58 @@ fn do_rule(
     Ok(None)
 }
 
-/// What becomes of one recipient. A rule applies, or doesn't, by the message as the earlier rules left it for this
-/// recipient.
+/// What becomes of one recipient, and which edits are done for it. A rule applies, or doesn't, by the message as the earlier
+/// rules left it for this recipient.
+pub fn trace(
+    alloc: Global,
+    rules: &[Rule],
+    directory: &Directory,
+    sender: Option<&Key>,
+    moment: u64,
+    opened: &[Gate],
+    message: &Message,
+    recipient: &Key,
+) -> Result<Traced, NoMemory>
+    requires few { length rules.now ≤ 100 }
+    requires form { list_all is_rule rules.now ≡ true }
+    ensures outcome { IfOk result (λ traced. traced.outcome ≡
+        fate rules.now (record { directory = directory.now; sender = option_copied sender.entry; moment = moment }) message.now opened.now recipient.now) }
+    ensures edits { IfOk result (λ traced. traced.edits ≡
+        edits rules.now (record { directory = directory.now; sender = option_copied sender.entry; moment = moment }) message.now opened.now recipient.now) }
+{
+    let mut progress = Progress {
+        message: message.copy(alloc)?,
+        copies: Items::new(alloc),
+    };
+    let mut edits = Items::new(alloc);
+    for (i, rule) in rules.iter().enumerate() {
+        if let Some(end) = do_rule(
+            alloc,
+            directory,
+            sender,
+            moment,
+            opened,
+            recipient,
+            i as u32,
+            rule,
+            &mut progress,
+            &mut edits,
+        )? {
+            let Progress { message: _, copies } = progress;
+            let outcome = RuleOutcome { copies, end };
+            return Ok(Traced { outcome, edits });
+        }
+    }
+    let text = progress.message.bytes(alloc)?;
+    let Progress { message: _, copies } = progress;
+    let outcome = RuleOutcome {
+        copies,
+        end: End::Keep { text },
+    };
+    Ok(Traced { outcome, edits })
+}
+
+/// What becomes of one recipient.
 pub fn judge(
     alloc: Global,
     rules: &[Rule],
@@ -270,30 +357,8 @@ pub fn judge(
     ensures { IfOk result (λ outcome. outcome ≡
         fate rules.now (record { directory = directory.now; sender = option_copied sender.entry; moment = moment }) message.now opened.now recipient.now) }
 {
-    let mut progress = Progress {
-        message: message.copy(alloc)?,
-        copies: Items::new(alloc),
-    };
-    for (i, rule) in rules.iter().enumerate() {
-        if let Some(end) = do_rule(
-            alloc,
-            directory,
-            sender,
-            moment,
-            opened,
-            recipient,
-            i as u32,
-            rule,
-            &mut progress,
-        )? {
-            let Progress { message: _, copies } = progress;
-            return Ok(RuleOutcome { copies, end });
-        }
-    }
-    let text = progress.message.bytes(alloc)?;
-    let Progress { message: _, copies } = progress;
-    Ok(RuleOutcome {
-        copies,
-        end: End::Keep { text },
-    })
+    let traced = trace(
+        alloc, rules, directory, sender, moment, opened, message, recipient,
+    )?;
+    Ok(traced.outcome)
 }
