@@ -88,7 +88,7 @@ synced() {
 printf '%-40s %8s %10s %12s %14s\n' load messages seconds messages/s octets/s
 # The row of syncs alone says how many of them this disk makes in a second; bench/syncs.py counts how many a message needs.
 timed "messages of 1 KiB" small "$messages"
-synced "syncs of this disk" $((8 * messages))
+synced "syncs of this disk" $((4 * messages))
 timed "a message of 1 MiB" large 1
 timed "a message of 1 MiB, 10,000 fields" fields 1
 copied "a copy of the same file, synced" fields

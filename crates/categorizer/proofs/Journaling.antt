@@ -14,8 +14,8 @@ use Rattle.journal_report.proofs.Offered.{lists}
 use Rattle.journal_rules.specs.Taking.{is_taken, named, taken_by, has_some, takings}
 use Rattle.journal_rules.specs.Taking as taking
 use Rattle.journal_rules.specs.declared.taking.Taken.{Taken}
-use Rattle.mail_plan.specs.Base.{base_message}
-use Rattle.mail_plan.specs.Entries.{IsWhy, IsItem, IsRelease}
+use Rattle.mail_submission.specs.Base.{base_message}
+use Rattle.mail_plan.specs.Fits.{IsWhy, IsItem, IsRelease}
 use Rattle.mail_plan.specs.Planning.{Input, IsInput, is_among, are_distinct, is_version, lines_of, lines_taken, Reports}
 use Rattle.org_directory.specs.Register.{Register, among}
 use Rattle.rule_terms.specs.declared.rule.JournalRule.{JournalRule}

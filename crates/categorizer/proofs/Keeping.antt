@@ -11,10 +11,10 @@ use Rattle.journal_rules.specs.declared.taking.Taken.{Taken}
 use Rattle.rule_terms.specs.Forms.{is_rule}
 use Rattle.rule_engine.specs.Run.{distinct}
 use Rattle.mail_plan.specs.Planning.{Input, Continues, is_among, are_distinct, is_gate_among, are_distinct_gates, targets, gates_of, are_named, use_texts, have_moderators, is_release}
-use Rattle.mail_plan.specs.Submission.{Submitted}
+use Rattle.mail_submission.specs.Submission.{Submitted}
 use Rattle.categorizer.specs.declared.parts.Content.{Content}
 use Rattle.categorizer.specs.declared.parts.Draft.{Draft}
-use Rattle.mail_plan.specs.Base.{base_message}
+use Rattle.mail_submission.specs.Base.{base_message}
 use Rattle.categorizer.specs.Growth.{ExpansionGrows, PlanGrows}
 use Rattle.categorizer.specs.Organisation.{Organisation, organisation_of}
 use Rattle.categorizer.specs.Plan.{Case, plan, plan_before, gates_before, news, is_target, kept, beside, judged_in, closed_gates, held_rules, is_new_gate}

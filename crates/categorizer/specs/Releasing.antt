@@ -26,7 +26,7 @@ use Rattle.mail_notices.specs.About.{about_of}
 use Rattle.mail_notices.specs.Text.{notice_text}
 use Rattle.mail_notices.specs.declared.kinds.Notice.{Notice}
 use Rattle.mail_notices.specs.declared.kinds.Notice.TheVariants as notices
-use Rattle.mail_plan.specs.Base.{base_text, base_message}
+use Rattle.mail_submission.specs.Base.{base_text, base_message}
 use Rattle.mail_plan.specs.Planning.{Input}
 use Rattle.mail_plan.specs.declared.release.End.{End}
 use Rattle.mail_plan.specs.declared.release.End.TheVariants as stops

@@ -1,10 +1,10 @@
 // What holds of releases.
 ghost use Rattle.std.specs.Prelude.{◌≡◌, ◌++◌, ℕ, List, Ok, true, false};
 ghost use Rattle.mail_names.specs.declared.gate.Gate.{Gate};
-ghost use Rattle.mail_plan.specs.Entries.{IsRelease};
+ghost use Rattle.mail_plan.specs.Fits.{IsRelease};
 ghost use Rattle.mail_plan.specs.Planning.{Input, IsInput, Continues, Reports, is_release, is_among, are_distinct, is_gate_among, are_distinct_gates, targets, gates_of};
 ghost use Rattle.categorizer.specs.Organisation.{Organisation, organisation_of};
-ghost use Rattle.mail_plan.specs.Base.{base_message};
+ghost use Rattle.mail_submission.specs.Base.{base_message};
 ghost use Rattle.categorizer.specs.Growth.{PlanGrows};
 ghost use Rattle.categorizer.specs.Plan.{plan};
 ghost use Rattle.categorizer.specs.Releasing.{takes, case_of, hub_release};

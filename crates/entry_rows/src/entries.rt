@@ -2,8 +2,10 @@
 use crate::octets::{add_number, add_octets, add_written};
 use crate::releases::{add_keys, add_release};
 use crate::values::add_origin;
+use log_entry::Entry;
 use mail_names::{ApprovalName, Bytes, ItemName, Key, NoMemory};
-use mail_plan::{Entry, Release, Submission};
+use mail_plan::Release;
+use mail_submission::Submission;
 use moderation::Verdict;
 use std::alloc::Global;
 

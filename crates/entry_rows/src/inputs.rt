@@ -4,7 +4,8 @@ ghost use Rattle.std.specs.Prelude.{◌≤◌};
 use crate::octets::octets;
 use crate::releases::add_gate;
 use mail_names::{Bytes, Gate, Items, Key, LAST_MOMENT, NoMemory};
-use mail_plan::{Opening, Origin, ReleaseInput, Submission};
+use mail_plan::{Opening, ReleaseInput};
+use mail_submission::{Origin, Submission};
 use std::alloc::Global;
 use std::sync::Arc;
 

@@ -10,7 +10,7 @@
 //! - `base NUMBER OCTETS`: the Message-Id of the message that is sent for a submission, and whether its text is that message.
 //!
 //! An octet stands for itself, or as `\` and its two hexadecimal digits, in small letters. To add a row, write its answer from the
-//! form of entries that `specs/EntryText.antt` of mail_plan gives, and not from a run.
+//! form of entries that `specs/EntryText.antt` of log_entry gives, and not from a run.
 #![tactic(auto)]
 
 mod entries;

@@ -1,12 +1,13 @@
 // The values that stand at a place.
 use crate::octets::{add_number, add_octets, add_written, octets};
 use crate::releases::{add_gate, add_keys, add_release};
-use mail_names::{Bytes, NoMemory};
-use mail_plan::{
-    Origin, get_approval_name, get_bytes, get_gate, get_item_name, get_key, get_key_option,
-    get_keys, get_origin, get_release, get_why, put_approval_name, put_bytes, put_gate,
-    put_item_name, put_key, put_key_option, put_keys, put_origin, put_release, put_why,
+use log_entry::{
+    get_approval_name, get_bytes, get_gate, get_item_name, get_key, get_key_option, get_keys,
+    get_origin, get_release, get_why, put_approval_name, put_bytes, put_gate, put_item_name,
+    put_key, put_key_option, put_keys, put_origin, put_release, put_why,
 };
+use mail_names::{Bytes, NoMemory};
+use mail_submission::Origin;
 use std::alloc::Global;
 
 // The place behind a value, and what it is written as.

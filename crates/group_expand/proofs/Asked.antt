@@ -5,7 +5,8 @@ use Rattle.std.proofs.lemmas.List.{get_or-replicate, get_or-set_same, get_or-set
 use Rattle.org_directory.proofs.Offered.{place_of-key_at, found-below}
 use Rattle.org_directory.specs.Register.{Register, IsSound, key_at, place_of}
 use Rattle.group_expand.specs.Expansion.{is_closed}
-use Rattle.group_expand.specs.Gates.{decided, answered, shuts, HasRoom, ShutsSame}
+use Rattle.group_expand.specs.Gates.{decided, answered, shuts, AreReady, ShutsSame}
+use Rattle.group_expand.specs.Groups.{KnowsGroups}
 use Rattle.group_expand.specs.declared.gates.Gates.{Gates}
 use Rattle.group_expand.proofs.Table.{not-closed}
 
@@ -18,11 +19,11 @@ pub shuts-at : (reg : Register) (gates : Gates) (p : ℕ) → IsSound reg → p 
 shuts-at reg gates p sound h = ap (answered gates.known.items (asked reg gates (key_at reg p))) (place_of-key_at reg p sound h)
 
 -- One more answer that is known changes no answer.
-pub learned : (reg : Register) (old after : Gates) (p : ℕ) (b : Bool) → p < length reg.objects → HasRoom reg old
-    → ((k : List ℕ) → asked reg after k ≡ asked reg old k) → after.known.items ≡ set old.known.items p (Some b)
+pub learned : (reg : Register) (old after : Gates) (p : ℕ) (b : Bool) → p < length reg.objects → AreReady reg old
+    → KnowsGroups reg (option_copied after.sender) after.groups → ((k : List ℕ) → asked reg after k ≡ asked reg old k) → after.known.items ≡ set old.known.items p (Some b)
     → b ≡ shuts reg old (key_at reg p) → ShutsSame reg old after
-learned reg old after p b h room alike known is = record {
-  room = ap length known ∙ (length-set old.known.items p (Some b) ∙ room);
+learned reg old after p b h ready groups alike known is = record {
+  ready = record { room = ap length known ∙ (length-set old.known.items p (Some b) ∙ ready.room); groups = groups };
   same = λ i k. by_place k (place_of reg k) refl i;
 }
   where
@@ -34,7 +35,7 @@ learned reg old after p b h room alike known is = record {
     by_split k q e (inl q-is) =
         let here : get_or after.known.items q None ≡ Some b
         = ap (λ xs. get_or xs q None) known ∙ (ap (λ x. get_or (set old.known.items p (Some b)) x None) q-is
-        ∙ get_or-set_same old.known.items p (Some b) None (subst (λ n. p < n) (sym room) h)) in
+        ∙ get_or-set_same old.known.items p (Some b) None (subst (λ n. p < n) (sym ready.room) h)) in
         let key-is : key_at reg p ≡ k = ap (key_at reg) (sym q-is) ∙ sym (found-below reg k q e).1 in
         ap (λ o. decided o (asked reg after k)) here ∙ (is ∙ (ap (shuts reg old) key-is ∙ ap (answered old.known.items (asked reg old k)) e))
     by_split k q e (inr other) =

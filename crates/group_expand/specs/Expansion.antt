@@ -37,9 +37,11 @@ expansion reg roots sender opened = record {
   unknown = unknown reg roots;
 }
 
+-- what expanding gives: TooManyLeaves, or the expansion
 abbrev pub expanded : Register → List (List ℕ) → Option (List ℕ) → List Gate → Result Expansion ExpandFault
 expanded reg roots sender opened = if too_many reg roots then Err faults.TooManyLeaves else Ok (expansion reg roots sender opened)
 
+-- TooManyLeaves is what expanding gives, but want of memory may come at any time.
 abbrev pub Fails : ExpandFault → Result Expansion ExpandFault → Type 0
 Fails faults.NoMemory read = Unit {0}
 Fails faults.TooManyLeaves read = read ≡ Err faults.TooManyLeaves

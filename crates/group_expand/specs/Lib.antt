@@ -1,5 +1,6 @@
 pub mod Expansion
 pub mod Gates
+pub mod Groups
 pub mod Marked
 pub mod Paths
 pub mod Places

@@ -33,6 +33,7 @@ Begun web had [] = Unit {0}
 Begun web had (f ∷ fs) =
     ((m : List ℕ) → among m (web.next f.carrier) ≡ true → (had m ≡ true) ⊎ (among m f.rest ≡ true)) × Begun web had fs
 
+-- What holds between steps of the keys that were had and the carriers entered.
 pub record Walks (web : Web) (had : List ℕ → Bool) (frames : List Frame) : Type 0 where
   pub passed : (g : List ℕ) → among g (trail_of frames) ≡ true → had g ≡ true
   pub sealed : Sealed web had (trail_of frames)

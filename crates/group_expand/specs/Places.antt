@@ -7,9 +7,11 @@ use Rattle.group_expand.specs.declared.way.Way.{Way}
 use Rattle.group_expand.specs.declared.walk.Entered.{Entered}
 use Rattle.group_expand.specs.Routes.{web_of}
 
+-- the keys of the groups on the stack, from the root down
 abbrev pub places_of : Register → List Entered → List (List ℕ)
 places_of reg stack = map (λ e. key_at reg e.place) stack
 
+-- a mailbox or a contact, or no object
 abbrev pub is_no_group : Option Object → Bool
 is_no_group None = true
 is_no_group (Some o) = not (is_group o.kind)
@@ -33,6 +35,7 @@ frame_of reg e = frame (key_at reg e.place) (keys_at reg (drop e.taken (members_
 abbrev pub frames_of : Register → List Entered → List Frame
 frames_of reg es = map (frame_of reg) es
 
+-- whether a key was had: an object by its mark, and a key that is no object by the ways found
 abbrev pub marked_at : List Bool → List Way → List ℕ → Option ℕ → Bool
 marked_at marks found key None = among key (map (λ w. w.key) found)
 marked_at marks found key (Some p) = get_or marks p false
@@ -41,6 +44,7 @@ marked_at marks found key (Some p) = get_or marks p false
 abbrev pub had_by : Register → List Bool → List Way → List ℕ → Bool
 had_by reg marks found key = marked_at marks found key (place_of reg key)
 
+-- an object with no mark counts 1
 abbrev pub cost : Bool → ℕ
 cost true = 0
 cost false = 1
@@ -54,10 +58,12 @@ abbrev pub Holds : Register → (List ℕ → Bool) → List Way → List (List 
 Holds reg shut whole roots marks stack found =
     Holding (web_of reg shut) (length reg.objects + 1) whole roots (had_by reg marks found) (frames_of reg (reverse stack)) found
 
+-- The same, where the next key was taken and isn't met yet.
 abbrev pub Faces : Register → (List ℕ → Bool) → List Way → List (List ℕ) → List Bool → List Entered → List ℕ → List Way → Type 0
 Faces reg shut whole roots marks stack key found =
     Facing (web_of reg shut) (length reg.objects + 1) whole roots (had_by reg marks found) (frames_of reg (reverse stack)) key found
 
+-- the calls of `member_at` that an object can still cost: for a group with no mark one for each member and one at the end
 abbrev pub price : Object → Bool → ℕ
 price o true = 0
 price o false = if is_group o.kind then length o.members + 1 else 0
@@ -68,6 +74,7 @@ owed [] marks = 0
 owed (o ∷ os) [] = 0
 owed (o ∷ os) (m ∷ ms) = price o m + owed os ms
 
+-- the calls of `member_at` that a group on the stack can still cost
 abbrev pub left_of : Register → Entered → ℕ
 left_of reg e = length (members_in (slice_get reg.objects e.place)) + 1 - e.taken
 
@@ -75,6 +82,7 @@ left_of reg e = length (members_in (slice_get reg.objects e.place)) + 1 - e.take
 abbrev pub all_owed : Register → List Bool → List Entered → ℕ
 all_owed reg marks stack = owed reg.objects marks + sum_by (left_of reg) stack
 
+-- What holds of the marks and the stack between steps.
 pub record Ready (reg : Register) (marks : List Bool) (stack : List Entered) : Type 0 where
   pub sound : IsSound reg
   pub long : length marks ≡ length reg.objects
@@ -90,6 +98,7 @@ Took reg (Some m) old left =
     (front : List Entered) × (e : Entered) × (old ≡ front ++ e ∷ []) × (left ≡ front ++ entry e.place (e.taken + 1) ∷ [])
     × (slice_get (members_in (slice_get reg.objects e.place)) e.taken ≡ Some m)
 
+-- the ways found, and one to a root outside that is no object, unless it was had
 abbrev pub with_stranger : Bool → Bool → List Way → List ℕ → List Way
 with_stranger true had found key = found
 with_stranger false true found key = found
@@ -107,5 +116,6 @@ abbrev pub groups : List Object → ℕ
 groups [] = 0
 groups (o ∷ os) = (if is_group o.kind then 1 else 0) + groups os
 
+-- With no marks yet the groups can cost a call for each of their member entries and one for each of them.
 abbrev pub CostsEntriesAndGroups : Type 0
 CostsEntriesAndGroups = (objects : List Object) → owed objects (no_marks objects) ≡ entries objects + groups objects

@@ -38,6 +38,7 @@ closed_met reg closed roots = first_of_each (filter (λ w. closed w.key) (all_wa
 abbrev pub keys_of : List Way → List (List ℕ)
 keys_of ws = map (λ w. w.key) ws
 
+-- no object, and inside
 abbrev pub is_unknown : Option ℕ → Bool → Bool
 is_unknown None inside = inside
 is_unknown (Some p) inside = false
@@ -71,6 +72,7 @@ abbrev pub shut_at : List Bool → Option ℕ → Bool
 shut_at table None = false
 shut_at table (Some p) = get_or table p false
 
+-- what the table says of the object of this key
 abbrev pub shut_by : Register → List Bool → List ℕ → Bool
 shut_by reg table key = shut_at table (place_of reg key)
 
@@ -90,5 +92,6 @@ with_unknown false had keys key = keys
 with_unknown true true keys key = keys
 with_unknown true false keys key = keys ++ key ∷ []
 
+-- a way to each root that is unknown, in order, as often as it is named
 abbrev pub unknown_ways : Register → List (List ℕ) → List Way
 unknown_ways reg roots = flat_map (λ k. here (is_unknown (place_of reg k) (is_inside reg k)) [] k) roots

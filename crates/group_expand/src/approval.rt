@@ -1,25 +1,30 @@
 // Which objects need approval.
-ghost use Rattle.std.specs.Prelude.{◌≡◌, ◌<◌, All, IfOk, length, option_copied, Some};
+ghost use Rattle.std.specs.Prelude.{◌≡◌, ◌<◌, All, IfOk, OnOk, length, option_copied, Some};
 ghost use Rattle.std.specs.List.{list_any};
 ghost use Rattle.org_directory.specs.Register.{key_at, keys_at, InRange};
 ghost use Rattle.org_directory.specs.Membership.{is_in, is_cleared, needs_approval};
+ghost use Rattle.group_expand.specs.Groups.{KnowsGroups};
 
+use crate::groups::Groups;
 use mail_names::{Key, NoMemory};
 use org_directory::{Directory, Object};
 use std::alloc::Global;
 
-/// Whether the key is in one of the groups.
+/// Whether the sender is in one of the groups.
 fn is_in_some(
     alloc: Global,
     directory: &Directory,
-    groups: &[u32],
-    key: &Key,
+    bypass: &[u32],
+    sender: &Key,
+    groups: &mut Groups,
 ) -> Result<bool, NoMemory>
-    requires { All (λ p. p < length directory.now.objects) groups.now }
-    ensures { IfOk result (λ b. b ≡ list_any (λ g. is_in directory.now g key.now) (keys_at directory.now groups.now)) }
+    requires range { All (λ p. p < length directory.now.objects) bypass.now }
+    requires groups { KnowsGroups directory.now (Some sender.now) groups.old }
+    ensures answer { IfOk result (λ b. b ≡ list_any (λ g. is_in directory.now g sender.now) (keys_at directory.now bypass.now)) }
+    ensures groups { OnOk result (KnowsGroups directory.now (Some sender.now) groups.new) }
 {
-    for group in groups {
-        if directory.in_group(alloc, *group, key)? {
+    for place in bypass {
+        if groups.has(alloc, directory, *place, sender)? {
             return Ok(true);
         }
     }
@@ -32,9 +37,12 @@ fn is_cleared(
     directory: &Directory,
     object: &Object,
     sender: &Key,
+    groups: &mut Groups,
 ) -> Result<bool, NoMemory>
-    requires { InRange (length directory.now.objects) object.now }
-    ensures { IfOk result (λ b. b ≡ is_cleared directory.now object.now (Some sender.now)) }
+    requires range { InRange (length directory.now.objects) object.now }
+    requires groups { KnowsGroups directory.now (Some sender.now) groups.old }
+    ensures answer { IfOk result (λ b. b ≡ is_cleared directory.now object.now (Some sender.now)) }
+    ensures groups { OnOk result (KnowsGroups directory.now (Some sender.now) groups.new) }
 {
     if directory.lists(object.moderators.as_slice(), sender) {
         return Ok(true);
@@ -45,7 +53,34 @@ fn is_cleared(
     if directory.lists(object.bypass.as_slice(), sender) {
         return Ok(true);
     }
-    is_in_some(alloc, directory, object.bypass.as_slice(), sender)
+    is_in_some(alloc, directory, object.bypass.as_slice(), sender, groups)
+}
+
+/// What `needs_approval` gives, by what is known of the sender's groups: it learns of each that it asks.
+pub fn needs_approval_with(
+    alloc: Global,
+    directory: &Directory,
+    id: u32,
+    sender: Option<&Key>,
+    groups: &mut Groups,
+) -> Result<bool, NoMemory>
+    requires place { id < length directory.now.objects }
+    requires groups { KnowsGroups directory.now (option_copied sender) groups.old }
+    ensures answer { IfOk result (λ b. b ≡ needs_approval directory.now (key_at directory.now id) (option_copied sender.entry)) }
+    ensures groups { OnOk result (KnowsGroups directory.now (option_copied sender.entry) groups.new) }
+{
+    directory.is_sound();
+    let object = directory.object(id);
+    if !object.moderated {
+        return Ok(false);
+    }
+    match sender {
+        None => Ok(true),
+        Some(sender) => {
+            let cleared = is_cleared(alloc, directory, object, sender, groups)?;
+            Ok(!cleared)
+        }
+    }
 }
 
 /// Whether the object at a place needs approval for a sender, where None is the null sender: it is moderated, and the
@@ -59,16 +94,6 @@ pub fn needs_approval(
     requires { id < length directory.now.objects }
     ensures { IfOk result (λ b. b ≡ needs_approval directory.now (key_at directory.now id) (option_copied sender.entry)) }
 {
-    directory.is_sound();
-    let object = directory.object(id);
-    if !object.moderated {
-        return Ok(false);
-    }
-    match sender {
-        None => Ok(true),
-        Some(sender) => {
-            let cleared = is_cleared(alloc, directory, object, sender)?;
-            Ok(!cleared)
-        }
-    }
+    let mut groups = Groups::new(alloc);
+    needs_approval_with(alloc, directory, id, sender, &mut groups)
 }

@@ -3,6 +3,7 @@
 
 mod approval;
 mod gates;
+mod groups;
 pub mod laws;
 mod outcome;
 mod plain;

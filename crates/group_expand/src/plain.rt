@@ -1,11 +1,12 @@
 // Expansion by listing all paths, as the definition says it. It is slow, and the walk gives the same.
 ghost use Rattle.std.specs.Prelude.{◌≡◌, ◌<◌, ◌++◌, [], ◌∷◌, false, not, All, IfOk, OnOk, length, map, filter, option_copied};
-ghost use Rattle.org_directory.specs.Register.{among, keys_at};
+ghost use Rattle.org_directory.specs.Register.{among, key_at, keys_at};
 ghost use Rattle.group_expand.specs.Expansion.{closed_of, expanded, is_closed, leaf_of, Gives};
 ghost use Rattle.group_expand.specs.Routes.{IsTable, all_ways, closed_met, kept, keys_of, leaves, shut_by, web_of};
 ghost use Rattle.group_expand.specs.Ways.{first_of_each, here, ways};
 
-use crate::gates::is_shut;
+use crate::approval::needs_approval;
+use crate::gates::is_opened;
 use crate::outcome::{Closed, ExpandFault, Expansion, Leaf, MOST_LEAVES};
 use crate::routes::{has_key, put, unknown_roots};
 use crate::walk::is_found;
@@ -13,6 +14,25 @@ use crate::way::Way;
 use mail_names::{Gate, Items, Key, NoMemory, copied_keys};
 use org_directory::{Directory, Kind};
 use std::alloc::Global;
+
+/// Whether the object at a place needs approval and its gate isn't opened.
+fn is_shut(
+    alloc: Global,
+    directory: &Directory,
+    id: u32,
+    sender: Option<&Key>,
+    opened: &[Gate],
+) -> Result<bool, NoMemory>
+    requires { id < length directory.now.objects }
+    ensures { IfOk result (λ b. b ≡ is_closed directory.now (option_copied sender.entry) opened.now (key_at directory.now id)) }
+{
+    let needs = needs_approval(alloc, directory, id, sender)?;
+    if !needs {
+        return Ok(false);
+    }
+    let open = is_opened(&directory.object(id).key, opened);
+    Ok(!open)
+}
 
 /// For each place whether its object is closed.
 fn closed_table(

@@ -2,7 +2,7 @@
 ghost use Rattle.std.specs.Prelude.{◌≡◌, ◌≤◌, ◌+◌, ◌*◌, ◌++◌, false, not, IfOk, OnOk, length, map, filter, option_copied};
 ghost use Rattle.org_directory.specs.Register.{among, place_of, is_inside};
 ghost use Rattle.group_expand.specs.Routes.{leaves, unknown, kept, closed_met, is_unknown, with_unknown};
-ghost use Rattle.group_expand.specs.Gates.{HasRoom, shuts};
+ghost use Rattle.group_expand.specs.Gates.{AreReady, shuts};
 ghost use Rattle.group_expand.specs.Places.{owed, no_marks, entries, groups};
 ghost use Rattle.group_expand.specs.Expansion.{is_closed, expanded, leaf_of, closed_of, Gives};
 
@@ -41,7 +41,7 @@ fn parted(
     gates: &mut Gates<'_>,
     ways: Vec<Way>,
 ) -> Result<(Items<Leaf>, Items<Closed>), NoMemory>
-    requires { HasRoom directory.now gates.old }
+    requires { AreReady directory.now gates.old }
     ensures leaves { IfOk result (λ parts. parts.0 ≡ map leaf_of (filter (λ w. not (shuts directory.now gates.old w.key)) ways.items)) }
     ensures closed { IfOk result (λ parts. parts.1 ≡ map closed_of (filter (λ w. shuts directory.now gates.old w.key) ways.items)) }
 {

@@ -6,7 +6,7 @@ ghost use Rattle.org_directory.specs.Register.{among, IsSound, key_at, is_inside
 ghost use Rattle.group_expand.specs.Ways.{first_of_each, here};
 ghost use Rattle.group_expand.specs.declared.way.Way.{Way};
 ghost use Rattle.group_expand.specs.Routes.{all_ways};
-ghost use Rattle.group_expand.specs.Gates.{HasRoom, shuts, ShutsSame};
+ghost use Rattle.group_expand.specs.Gates.{AreReady, shuts, ShutsSame};
 ghost use Rattle.group_expand.specs.Places.{places_of, is_no_group, entered, entry, all_owed, owed, no_marks, Ready, Holds, Faces, Took, with_stranger};
 
 use crate::gates::Gates;
@@ -85,7 +85,7 @@ fn visit(
     stack: &mut Vec<Entered>,
     found: &mut Items<Way>,
 ) -> Result<(), NoMemory>
-    requires room { HasRoom directory.now gates.old }
+    requires gates { AreReady directory.now gates.old }
     requires place { place < length directory.now.objects }
     requires new { get_or marks.old place false ≡ false }
     requires ready { Ready directory.now marks.old stack.old.items }
@@ -138,7 +138,7 @@ fn step<L: Ledger>(
     found: &mut Items<Way>,
     steps: &mut Steps<L>,
 ) -> Result<(), NoMemory>
-    requires room { HasRoom directory.now gates.old }
+    requires gates { AreReady directory.now gates.old }
     requires ready { Ready directory.now marks.old stack.old.items }
     requires more { 0 < length stack.old.items }
     ensures ready { OnOk result (Ready directory.now marks.new stack.new.items) }
@@ -169,7 +169,7 @@ fn run<L: Ledger>(
     found: &mut Items<Way>,
     steps: &mut Steps<L>,
 ) -> Result<(), NoMemory>
-    requires room { HasRoom directory.now gates.old }
+    requires gates { AreReady directory.now gates.old }
     requires ready { Ready directory.now marks.old stack.old.items }
     ensures ready { OnOk result (Ready directory.now marks.new stack.new.items) }
     ensures gates { OnOk result (ShutsSame directory.now gates.old gates.new) }
@@ -235,7 +235,7 @@ fn root_step<L: Ledger>(
     found: &mut Items<Way>,
     steps: &mut Steps<L>,
 ) -> Result<(), NoMemory>
-    requires room { HasRoom directory.now gates.old }
+    requires gates { AreReady directory.now gates.old }
     requires ready { Ready directory.now marks.old stack.old.items }
     requires empty { stack.old.items ≡ [] }
     ensures ready { OnOk result (Ready directory.now marks.new stack.new.items) }
@@ -270,7 +270,7 @@ fn walk_roots<L: Ledger>(
     marks: &mut [bool],
     steps: &mut Steps<L>,
 ) -> Result<Items<Way>, NoMemory>
-    requires room { HasRoom directory.now gates.old }
+    requires gates { AreReady directory.now gates.old }
     requires fresh { marks.old ≡ no_marks directory.now.objects }
     ensures ways { IfOk result (λ ws. ws ≡ first_of_each (all_ways directory.now (shuts directory.now gates.old) roots.now)) }
     ensures gates { OnOk result (ShutsSame directory.now gates.old gates.new) }
@@ -295,7 +295,7 @@ pub fn first_ways<L: Ledger>(
     roots: &[Key],
     steps: &mut Steps<L>,
 ) -> Result<Items<Way>, NoMemory>
-    requires room { HasRoom directory.now gates.old }
+    requires gates { AreReady directory.now gates.old }
     ensures ways { IfOk result (λ ws. ws ≡ first_of_each (all_ways directory.now (shuts directory.now gates.old) roots.now)) }
     ensures gates { OnOk result (ShutsSame directory.now gates.old gates.new) }
     ensures cost { steps.new ≤ steps.old + owed directory.now.objects (no_marks directory.now.objects) }

@@ -5,8 +5,8 @@ use Rattle.mail_names.specs.declared.name.ApprovalName.{ApprovalName}
 use Rattle.moderation.specs.declared.approval.Verdict.{Verdict}
 use Rattle.moderation.specs.declared.approval.Verdict.TheVariants as verdicts
 use Rattle.mail_plan.specs.Planning.{made_at}
-use Rattle.mail_plan.specs.declared.entry.Entry.{Entry}
-use Rattle.mail_plan.specs.declared.entry.Entry.TheVariants as entries
+use Rattle.log_entry.specs.declared.entry.Entry.{Entry}
+use Rattle.log_entry.specs.declared.entry.Entry.TheVariants as entries
 use Rattle.mail_plan.specs.declared.release.Release.{Release}
 use Rattle.hub_core.specs.declared.asking.Asking.{Asking}
 use Rattle.hub_core.specs.Setup.{Setup}

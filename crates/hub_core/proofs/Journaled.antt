@@ -9,10 +9,12 @@ use Rattle.std.proofs.lemmas.List.Folds.{list_any-append}
 use Rattle.mail_names.specs.declared.gate.Gate.{Gate}
 use Rattle.moderation.specs.declared.approval.Verdict.TheVariants as verdicts
 use Rattle.mail_plan.proofs.Offered.{joined-distinct}
-use Rattle.mail_plan.specs.Entries.{IsEntry, IsRelease, IsSubmission}
+use Rattle.mail_submission.specs.Fits.{IsSubmission}
+use Rattle.mail_plan.specs.Fits.{IsRelease}
+use Rattle.log_entry.specs.Entries.{IsEntry}
 use Rattle.mail_plan.specs.Planning.{Input, IsInput, Opening, Reports, is_among, are_distinct, targets, gates_of, moment_or, made_at, first_input, input_at}
-use Rattle.mail_plan.specs.declared.entry.Entry.{Entry}
-use Rattle.mail_plan.specs.declared.entry.Entry.TheVariants as entries
+use Rattle.log_entry.specs.declared.entry.Entry.{Entry}
+use Rattle.log_entry.specs.declared.entry.Entry.TheVariants as entries
 use Rattle.mail_plan.specs.declared.release.Release.{Release}
 use Rattle.hub_core.specs.Setup.{Setup}
 use Rattle.hub_core.specs.Approvals.{changed}

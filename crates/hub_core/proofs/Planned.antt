@@ -1,6 +1,6 @@
 -- What the planner's laws say of the releases of a hub that is set up over it.
 use Rattle.std.proofs.Common.{◌≡◌, ℕ, ◌<◌, Bool, true, false, List, Option, Result, Ok, Err, refl}
-use Rattle.mail_plan.specs.Entries.{IsRelease}
+use Rattle.mail_plan.specs.Fits.{IsRelease}
 use Rattle.mail_plan.specs.Means.{Means}
 use Rattle.mail_plan.specs.Planning.{Input, IsInput, Opening, Reports, is_among, are_distinct, targets, input_at}
 use Rattle.mail_plan.specs.declared.planner.OrgFault.{OrgFault}

@@ -5,8 +5,8 @@ use Rattle.std.proofs.lemmas.Grind.{fold-append}
 use Rattle.mail_names.specs.declared.name.ItemName.{ItemName}
 use Rattle.moderation.specs.declared.approval.Verdict.TheVariants as verdicts
 use Rattle.mail_plan.specs.Planning.{Opening, gates_of}
-use Rattle.mail_plan.specs.declared.entry.Entry.{Entry}
-use Rattle.mail_plan.specs.declared.entry.Entry.TheVariants as entries
+use Rattle.log_entry.specs.declared.entry.Entry.{Entry}
+use Rattle.log_entry.specs.declared.entry.Entry.TheVariants as entries
 use Rattle.mail_plan.specs.declared.release.Release.{Release}
 use Rattle.hub_core.specs.declared.queue.QueuedItem.{QueuedItem}
 use Rattle.hub_core.specs.Setup.{Setup}

@@ -6,9 +6,9 @@ use Rattle.std.specs.Cmp.Lexicographic.{pointwise}
 use Rattle.std.specs.BTreeMap.{BTreeMap}
 use Rattle.std.proofs.lemmas.Iterator.Adapters.{position_from-zero}
 use Rattle.std.proofs.lemmas.Slice.Eq.{bytes_eq-Decides}
-use Rattle.mail_plan.specs.Submission.{Submitted, option_eq, same_mark, same_submission, has_message_id}
-use Rattle.mail_plan.specs.declared.submission.Origin.{Origin}
-use Rattle.mail_plan.specs.declared.submission.Origin.TheVariants as origins
+use Rattle.mail_submission.specs.Submission.{Submitted, option_eq, same_mark, same_submission, has_message_id}
+use Rattle.mail_submission.specs.declared.submission.Origin.{Origin}
+use Rattle.mail_submission.specs.declared.submission.Origin.TheVariants as origins
 use Rattle.hub_core.specs.Mail.{LiveMail}
 use Rattle.hub_core.specs.Standing.{place_of_same}
 use Rattle.hub_core.specs.Repeats.{chained, path_octets, digest_under, digest_from, digest_of, is_digest, has_digest, found_or, place_at, IsIndex, repeats_at}

@@ -5,7 +5,7 @@ use Rattle.std.specs.List.{list_any}
 use Rattle.mail_names.specs.declared.name.ApprovalName.{ApprovalName}
 use Rattle.moderation.specs.declared.approval.Verdict.{Verdict}
 use Rattle.moderation.specs.declared.approval.Verdict.TheVariants as verdicts
-use Rattle.mail_plan.specs.Submission.{Submitted}
+use Rattle.mail_submission.specs.Submission.{Submitted}
 use Rattle.hub_core.specs.declared.asking.Asking.{Asking}
 use Rattle.hub_core.specs.Approvals.{changed, stage_open, decided_stage, expired_stage}
 use Rattle.hub_core.specs.Mail.{LiveMail, freed, with_asks, asking_at, opened_by, decided_with, decided_mail, expired_mail}

@@ -16,8 +16,8 @@ use Rattle.mail_notices.specs.declared.kinds.Notice.{Notice}
 use Rattle.mail_notices.specs.declared.kinds.Notice.TheVariants as notices
 use Rattle.mail_plan.specs.Planning.{Input, is_at, is_plain, are_named, is_release, first_input, input_at}
 use Rattle.mail_plan.specs.declared.release.Item.{Item}
-use Rattle.mail_plan.specs.declared.entry.Entry.{Entry}
-use Rattle.mail_plan.specs.declared.entry.Entry.TheVariants as entries
+use Rattle.log_entry.specs.declared.entry.Entry.{Entry}
+use Rattle.log_entry.specs.declared.entry.Entry.TheVariants as entries
 use Rattle.hub_core.specs.declared.asking.Asking.{Asking}
 use Rattle.hub_core.specs.declared.queue.QueuedItem.{QueuedItem}
 use Rattle.hub_core.specs.Setup.{Texts, Setup}

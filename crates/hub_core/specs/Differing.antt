@@ -3,9 +3,9 @@ use Rattle.std.specs.Prelude.{◌+◌, ◌==◌, ℕ, Bool, if◌then◌else◌,
 use Rattle.mail_names.specs.declared.gate.Gate.{Gate}
 use Rattle.mail_names.specs.Gates.{same_gate}
 use Rattle.mail_plan.specs.Planning.{Input}
-use Rattle.mail_plan.specs.Submission.{Submitted}
-use Rattle.mail_plan.specs.declared.submission.Origin.{Origin}
-use Rattle.mail_plan.specs.declared.submission.Origin.TheVariants as origins
+use Rattle.mail_submission.specs.Submission.{Submitted}
+use Rattle.mail_submission.specs.declared.submission.Origin.{Origin}
+use Rattle.mail_submission.specs.declared.submission.Origin.TheVariants as origins
 use Rattle.hub_core.specs.Setup.{Texts}
 use Rattle.hub_core.specs.declared.part.Part.{Part}
 use Rattle.hub_core.specs.declared.part.Part.TheVariants as parts

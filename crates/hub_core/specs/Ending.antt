@@ -10,8 +10,8 @@ use Rattle.mail_notices.specs.About.{about_of}
 use Rattle.mail_notices.specs.Text.{notice_text}
 use Rattle.mail_notices.specs.declared.kinds.Notice.{Notice}
 use Rattle.mail_notices.specs.declared.kinds.Notice.TheVariants as notices
-use Rattle.mail_plan.specs.Base.{base_message, base_text}
-use Rattle.mail_plan.specs.Submission.{Submitted}
+use Rattle.mail_submission.specs.Base.{base_message, base_text}
+use Rattle.mail_submission.specs.Submission.{Submitted}
 use Rattle.hub_core.specs.declared.asking.Asking.{Asking}
 use Rattle.hub_core.specs.declared.queue.QueuedItem.{QueuedItem}
 use Rattle.hub_core.specs.Setup.{Texts, Setup}

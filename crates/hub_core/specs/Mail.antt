@@ -9,7 +9,7 @@ use Rattle.moderation.specs.declared.approval.Decision.TheVariants as decisions
 use Rattle.moderation.specs.declared.approval.Verdict.{Verdict}
 use Rattle.moderation.specs.declared.approval.Verdict.TheVariants as verdicts
 use Rattle.mail_plan.specs.Planning.{Input, Opening, first_input, input_at, made_at}
-use Rattle.mail_plan.specs.Submission.{Submitted}
+use Rattle.mail_submission.specs.Submission.{Submitted}
 use Rattle.mail_plan.specs.declared.release.Release.{Release}
 use Rattle.hub_core.specs.declared.asking.Asking.{Asking}
 use Rattle.hub_core.specs.Setup.{Texts}

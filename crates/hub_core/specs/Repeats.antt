@@ -4,9 +4,9 @@ use Rattle.std.specs.Ordering.{nat_cmp}
 use Rattle.std.specs.Cmp.Lexicographic.{slice_cmp}
 use Rattle.std.specs.BTreeMap.{BTreeMap, get}
 use Rattle.sha2.specs.Sha256.{sha256}
-use Rattle.mail_plan.specs.Submission.{Submitted, has_message_id, same_submission}
-use Rattle.mail_plan.specs.declared.submission.Origin.{Origin}
-use Rattle.mail_plan.specs.declared.submission.Origin.TheVariants as origins
+use Rattle.mail_submission.specs.Submission.{Submitted, has_message_id, same_submission}
+use Rattle.mail_submission.specs.declared.submission.Origin.{Origin}
+use Rattle.mail_submission.specs.declared.submission.Origin.TheVariants as origins
 use Rattle.hub_core.specs.Mail.{LiveMail}
 
 -- the octets of a reverse path, none for the null sender

@@ -6,7 +6,7 @@ use Rattle.mail_names.specs.declared.name.ItemName.{ItemName}
 use Rattle.moderation.specs.declared.approval.Decision.{Decision}
 use Rattle.moderation.specs.declared.approval.Verdict.{Verdict}
 use Rattle.mail_plan.specs.Planning.{Input}
-use Rattle.mail_plan.specs.Submission.{Submitted}
+use Rattle.mail_submission.specs.Submission.{Submitted}
 use Rattle.mail_plan.specs.declared.planner.OrgFault.{OrgFault}
 use Rattle.hub_core.specs.declared.command.Command.{Command}
 use Rattle.hub_core.specs.declared.command.Command.TheVariants as commands

@@ -1,7 +1,8 @@
 // What the hub is asked, and what it answers.
 use crate::part::Part;
 use mail_names::{ApprovalName, Bytes, ItemName, Key};
-use mail_plan::{OrgFault, Outcome, Planner, Submission};
+use mail_plan::{OrgFault, Outcome, Planner};
+use mail_submission::Submission;
 use moderation::{Decision, Verdict};
 
 /// What is asked. Clocks are seconds since 1970-01-01T00:00:00Z.

@@ -3,7 +3,7 @@ ghost use Rattle.std.specs.Prelude.{◌≡◌, [], fold, option_copied};
 ghost use Rattle.hub_core.specs.Repeats.{path_octets, chained, digest_under, digest_of};
 
 use mail_names::Key;
-use mail_plan::{Origin, Submission};
+use mail_submission::{Origin, Submission};
 use sha2::{Digest, Sha256};
 
 // The digest of a digest and one part more.

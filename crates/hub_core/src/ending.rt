@@ -3,7 +3,7 @@ ghost use Rattle.std.specs.Prelude.{◌≡◌, ◌≤◌, ◌++◌, true, slice_
 ghost use Rattle.moderation.specs.declared.approval.Verdict.TheVariants as verdicts;
 ghost use Rattle.moderation.specs.Approval.{runs_out};
 ghost use Rattle.mail_notices.specs.About.{about_of};
-ghost use Rattle.mail_plan.specs.Base.{base_message, base_text};
+ghost use Rattle.mail_submission.specs.Base.{base_message, base_text};
 ghost use Rattle.hub_core.specs.declared.limits.Limits.{Limits};
 ghost use Rattle.hub_core.specs.Setup.{setup_of};
 ghost use Rattle.hub_core.specs.Mail.{asking_at, decision_in, is_taken};
@@ -16,7 +16,8 @@ use crate::queue::{QueuedItem, SharedBytes};
 use crate::stage::Stage;
 use mail_names::{ApprovalName, Bytes, ItemName, Key, LAST_MOMENT, Mark, NoMemory};
 use mail_notices::{About, Notice, notice};
-use mail_plan::{Planner, Submission};
+use mail_plan::Planner;
+use mail_submission::Submission;
 use moderation::{Approval, ApprovalState};
 use std::alloc::Global;
 use std::collections::VecDeque;

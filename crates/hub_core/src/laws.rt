@@ -3,8 +3,8 @@ ghost use Rattle.std.specs.Prelude.{◌≡◌, ◌≢◌, ℕ, suc, true, List, 
 ghost use Rattle.std.specs.List.{AllPairs, AllByRecursion};
 ghost use Rattle.mail_names.specs.declared.name.ItemName.{ItemName};
 ghost use Rattle.mail_plan.specs.Planning.{are_distinct, all_targets, first_input};
-ghost use Rattle.mail_plan.specs.declared.entry.Entry.{Entry};
-ghost use Rattle.mail_plan.specs.Entries.{IsEntry};
+ghost use Rattle.log_entry.specs.declared.entry.Entry.{Entry};
+ghost use Rattle.log_entry.specs.Entries.{IsEntry};
 ghost use Rattle.hub_core.specs.declared.limits.Limits.{Limits};
 ghost use Rattle.hub_core.specs.declared.queue.QueuedItem.{QueuedItem};
 ghost use Rattle.hub_core.specs.Setup.{setup_of};

@@ -4,7 +4,8 @@ ghost use Rattle.hub_core.specs.Setup.{texts_of};
 ghost use Rattle.hub_core.specs.Differing.{place_where, bytes_differ, keys_differ, gates_differ, numbers_differ, options_differ, origins_differ, or_behind, submissions_differ, orgs_differ, first_difference};
 
 use mail_names::{Gate, Items, Key, same_gate};
-use mail_plan::{Origin, Outcome, Planner, ReleaseInput, Submission};
+use mail_plan::{Outcome, Planner, ReleaseInput};
+use mail_submission::{Origin, Submission};
 
 /// A part of what a release is made from.
 #[derive(Clone, Copy, Debug, PartialEq, Eq)]

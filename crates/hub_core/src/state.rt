@@ -16,8 +16,10 @@ use crate::live::{Live, TaskName, first_task, is_uncategorised, made_at, uncateg
 use crate::queue::{QueuedItem, find, is_waiting, names_of, queued_all, take_out};
 use crate::remembered::Remembered;
 use crate::{Command, Reply, StepFault};
+use log_entry::Entry;
 use mail_names::{ItemName, LAST_MOMENT, NoMemory};
-use mail_plan::{Entry, FIRST_DIRECTORY, OrgFault, Outcome, Planner, Release, Submission, Task};
+use mail_plan::{FIRST_DIRECTORY, OrgFault, Outcome, Planner, Release, Task};
+use mail_submission::Submission;
 use std::alloc::Global;
 use std::collections::VecDeque;
 use std::marker::Model;

@@ -4,8 +4,9 @@ use crate::words::{
     applied, approval, both, cut, key, keys, number, small, submission, tell, verdict,
 };
 use hub_core::{Limits, State};
+use log_entry::Entry;
 use mail_names::{Bytes, Gate, Items, NoMemory};
-use mail_plan::{Entry, FIRST_DIRECTORY, Hold, Release};
+use mail_plan::{FIRST_DIRECTORY, Hold, Release};
 use std::alloc::Global;
 
 /// An empty history, with the most live organisations that it may have.

@@ -5,7 +5,8 @@ use crate::silent::{AnyOrg, Silent};
 use crate::words::{cut, number, reply, small, submission};
 use hub_core::State;
 use mail_names::{Bytes, Gate, LAST_MOMENT, NoMemory};
-use mail_plan::{FIRST_DIRECTORY, Opening, Outcome, ReleaseInput, Submission, Task, plan};
+use mail_plan::{FIRST_DIRECTORY, Opening, Outcome, ReleaseInput, Task, plan};
+use mail_submission::Submission;
 use std::alloc::Global;
 use std::sync::Arc;
 

@@ -1,7 +1,7 @@
 // The words of rows.
 use hub_core::{Reply, StepFault};
 use mail_names::{ApprovalName, Bytes, Items, Key, NoMemory};
-use mail_plan::{Origin, Submission};
+use mail_submission::{Origin, Submission};
 use moderation::{Tell, Verdict};
 use std::alloc::Global;
 

@@ -45,6 +45,7 @@ takes reg sender target j =
 abbrev pub is_taken : Register → Option (List ℕ) → List JournalRule → List ℕ → List ℕ → Bool
 is_taken reg sender journals mailbox target = list_any (λ j. bytes_eq mailbox j.mailbox && takes reg sender target j) journals
 
+-- the mailboxes, and this one behind them unless it is there
 abbrev pub one_more : List (List ℕ) → List ℕ → List (List ℕ)
 one_more mailboxes mailbox = if among mailbox mailboxes then mailboxes else mailboxes ++ mailbox ∷ []
 
@@ -57,6 +58,7 @@ abbrev pub places : (List ℕ → Bool) → ℕ → List (List ℕ) → List ℕ
 places passes at [] = []
 places passes at (target ∷ targets) = if passes target then at ∷ places passes (at + 1) targets else places passes (at + 1) targets
 
+-- a mailbox, and the places of the targets that its rules take
 abbrev pub taken_by : Register → Option (List ℕ) → List JournalRule → List (List ℕ) → List ℕ → Taken
 taken_by reg sender journals targets mailbox =
     record { mailbox = mailbox; targets = places (is_taken reg sender journals mailbox) 0 targets }

@@ -2,7 +2,7 @@
 use Rattle.std.proofs.Common.{◌≡◌, ℕ, zero, suc, ◌-◌, take, sym, ap, ◌∙◌, refl, arith, Option, Some, List}
 use Rattle.std.proofs.lemmas.List.{take-map}
 use Rattle.mail_names.specs.declared.gate.Gate.{Gate}
-use Rattle.mail_plan.specs.Submission.{Submitted}
+use Rattle.mail_submission.specs.Submission.{Submitted}
 use Rattle.mail_plan.specs.Planning.{Opening, gates_opened, before_at, made_at, input_at, first_input}
 
 pub opened_of : (openings : List Opening) (count : ℕ) → gates_opened (take count openings) ≡ take count (gates_opened openings)

@@ -1,7 +1,3 @@
-pub mod Base
-pub mod Entries
-pub mod EntryText
+pub mod Fits
 pub mod Planning
 pub mod Means
-pub mod Reading
-pub mod Submission

@@ -10,8 +10,8 @@ use Rattle.mail_names.specs.declared.name.Mark.{Mark}
 use Rattle.mail_names.specs.declared.name.Mark.TheVariants as marks
 use Rattle.journal_report.specs.declared.parts.Line.{Line}
 use Rattle.journal_report.specs.Listed.{OneLists}
-use Rattle.mail_plan.specs.Entries.{IsSubmission}
-use Rattle.mail_plan.specs.Submission.{Submitted}
+use Rattle.mail_submission.specs.Fits.{IsSubmission}
+use Rattle.mail_submission.specs.Submission.{Submitted}
 use Rattle.mail_plan.specs.declared.planner.OrgFault.{OrgFault}
 use Rattle.mail_plan.specs.declared.planner.OrgFault.TheVariants as faults
 use Rattle.mail_plan.specs.declared.release.Hold.{Hold}

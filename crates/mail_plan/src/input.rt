@@ -3,8 +3,8 @@ ghost use Rattle.std.specs.Prelude.{◌≡◌, ◌≤◌, length, IfOk};
 ghost use Rattle.std.specs.Arc.{arc_value};
 ghost use Rattle.mail_plan.specs.Planning.{gates_opened, before_at, made_at, input_at, first_input};
 
-use crate::Submission;
 use mail_names::{Gate, Items, LAST_MOMENT, NoMemory, copied_gate};
+use mail_submission::Submission;
 use std::alloc::Global;
 use std::marker::Model;
 use std::sync::Arc;

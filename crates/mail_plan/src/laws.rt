@@ -1,22 +1,9 @@
-// Laws of the bytes of entries, and of the releases of one submission by any planner.
-ghost use Rattle.std.specs.Prelude.{◌≡◌, ◌<◌, [], List, ℕ, ◌++◌, true, false};
+// Laws of the releases of one submission, by any planner.
+ghost use Rattle.std.specs.Prelude.{◌≡◌, ◌<◌, List, ℕ, true, false};
 ghost use Rattle.mail_names.specs.declared.gate.Gate.{Gate};
 ghost use Rattle.mail_plan.specs.Planning.{Input, Opening, is_among, is_gate_among, are_distinct, targets, gates_of, input_at, all_targets};
-ghost use Rattle.mail_plan.specs.declared.entry.Entry.{Entry};
-ghost use Rattle.mail_plan.specs.Entries.{IsEntry};
-ghost use Rattle.mail_plan.specs.EntryText.{entry_text};
 
 use crate::Planner;
-
-/// An entry's text determines the entry.
-pub fn one_entry()
-    ensures { (a b : Entry) → IsEntry a → IsEntry b → entry_text a ≡ entry_text b → a ≡ b }
-{}
-
-/// No entry's text is a proper prefix of another's.
-pub fn no_entry_is_a_prefix()
-    ensures { (a b : Entry) (rest : List ℕ) → IsEntry a → IsEntry b → entry_text a ++ rest ≡ entry_text b → rest ≡ [] }
-{}
 
 /// No target is sent by two releases of a submission.
 pub fn no_target_twice<T: Planner>()

@@ -19,7 +19,7 @@ pub const FIRST_DIRECTORY: &[u8] = b"key,kind,members,owners,moderated,moderator
 pub trait Planner {
     ghost use Rattle.std.specs.Prelude.{◌≡◌, ℕ, Bool, true, false, List, [], Option, Result, Ok, Err, IfOk};
     ghost use Rattle.mail_names.specs.declared.gate.Gate.{Gate};
-    ghost use Rattle.mail_plan.specs.Entries.{IsRelease};
+    ghost use Rattle.mail_plan.specs.Fits.{IsRelease};
     ghost use Rattle.mail_plan.specs.Means.{Means};
     ghost use Rattle.mail_plan.specs.Planning.{Input, IsInput, Gives, Continues, Reports, first_directory, is_release, are_distinct, are_distinct_gates, is_among, is_gate_among, targets, gates_of};
     ghost use Rattle.mail_plan.specs.declared.planner.OrgFault.{OrgFault};

@@ -1,9 +1,9 @@
 -- A session over a history never meets a file that is no log.
-use Rattle.std.proofs.Common.{◌≡◌, ℕ, List, [], ◌∷◌, ◌++◌, Option, Some, None, Result, Ok, Err, refl, subst}
-use Rattle.mail_plan.specs.declared.intake.Accepted.{Accepted}
-use Rattle.mail_plan.specs.declared.intake.IntakeFault.{IntakeFault}
-use Rattle.mail_plan.specs.declared.intake.IntakeFault.TheVariants as faults
-use Rattle.mail_plan.specs.declared.intake.IntakeStep.{IntakeStep}
+use Rattle.std.proofs.Common.{◌≡◌, ◌⊎◌, inl, inr, ℕ, List, [], ◌∷◌, ◌++◌, Option, Some, None, Result, Ok, Err, refl, subst}
+use Rattle.mail_submission.specs.declared.intake.Accepted.{Accepted}
+use Rattle.mail_submission.specs.declared.intake.IntakeFault.{IntakeFault}
+use Rattle.mail_submission.specs.declared.intake.IntakeFault.TheVariants as faults
+use Rattle.mail_submission.specs.declared.intake.IntakeStep.{IntakeStep}
 use Rattle.plant_dev.specs.Disk.{State}
 use Rattle.smtp_front.specs.declared.react.Phase.{Phase}
 use Rattle.smtp_front.specs.declared.react.Deed.{Deed}
@@ -18,7 +18,11 @@ use Rattle.mail_transport.specs.declared.status.Status.{Status}
 use Rattle.mail_transport.specs.declared.status.Status.TheVariants as statuses
 use Rattle.mail_transport.specs.Points.{Point, Trace, sure}
 use Rattle.mail_transport.specs.Answers.{RunGives}
-use Rattle.mail_transport.specs.Run.{Ends, Ran}
+use Rattle.queue_store.specs.declared.fault.HubFault.{HubFault}
+use Rattle.queue_store.specs.declared.fault.HubFault.TheVariants as hubs
+use Rattle.queue_store.specs.Opening.{OpenFault}
+use Rattle.mail_transport.specs.HubSetup.{hub_setup}
+use Rattle.mail_transport.specs.Run.{Ends, IsNoLog, Ran, fault_status}
 
 none_ends : (end : SessionEnd) → None ≡ Some end → ⊥
 none_ends end e = cc
@@ -81,3 +85,15 @@ memory≢log e = cc
 
 pub disk≢log : statuses.DiskFault ≡ statuses.NotALog → ⊥
 disk≢log e = cc
+
+-- why no session was begun on a file that was not opened
+pub told_as : (file : List ℕ) (fault : HubFault) (status : Status) → status ≡ fault_status fault → OpenFault hub_setup file fault →
+    ((status ≡ statuses.NotALog) × IsNoLog file) ⊎ ((status ≡ statuses.DiskFault) ⊎ (status ≡ statuses.NoMemory))
+told_as file hubs.DiskFault status is bad = inr (inl is)
+told_as file hubs.NoMemory status is bad = inr (inr is)
+told_as file (hubs.NotALog at) status is bad = inl (is, (at, bad))
+told_as file (hubs.QueueFull live bytes) status is bad = absurd bad
+told_as file (hubs.LogFull octets) status is bad = absurd bad
+told_as file (hubs.Org fault) status is bad = absurd bad
+told_as file (hubs.EpochsFull live) status is bad = absurd bad
+told_as file hubs.NoSuchApproval status is bad = absurd bad

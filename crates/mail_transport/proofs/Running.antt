@@ -2,7 +2,7 @@
 use Rattle.std.proofs.Common.{◌≡◌, ◌⊎◌, inl, inr, ℕ, ◌+◌, ◌≤◌, Bool, List, [], ◌∷◌, ◌++◌, Option, refl, ap, ◌∙◌, sym, subst, arith, append_assoc, append-nil}
 use Rattle.port_io.specs.Causes.{Rose, RoseBy}
 use Rattle.port_io.specs.Told.{Gave}
-use Rattle.mail_plan.specs.declared.entry.Entry.{Entry}
+use Rattle.log_entry.specs.declared.entry.Entry.{Entry}
 use Rattle.plant_dev.specs.Disk.{State, Image}
 use Rattle.plant_dev.proofs.Offered.{started, weakens}
 use Rattle.hub_core.specs.Standing.{Standing, standing}
@@ -10,17 +10,17 @@ use Rattle.queue_store.specs.declared.fault.HubFault.{HubFault}
 use Rattle.queue_store.specs.declared.fault.HubFault.TheVariants as faults
 use Rattle.queue_store.specs.Stands.{Stands}
 use Rattle.queue_store.specs.Room.{Fits}
-use Rattle.queue_store.specs.Calls.{misses}
+use Rattle.queue_store.specs.Calls.{misses, EachTried}
 use Rattle.queue_store.specs.Ready.{Kept, IsReady, Before, Leaves as LogLeaves, MidBreak}
 use Rattle.queue_store.specs.Turning.{MidRun, Done, NotOpened as HubNotOpened, Broke, Short, FailsOpened, FailsPartly}
-use Rattle.queue_store.proofs.Offered.{before_may, behind_reached, settled_behind, may_now}
+use Rattle.queue_store.proofs.Offered.{before_may, behind_reached, settled_behind, may_now, tried_within}
 use Rattle.smtp_front.specs.declared.session_end.SessionEnd.{SessionEnd}
 use Rattle.smtp_front.specs.declared.session_end.SessionEnd.TheVariants as ends
 use Rattle.mail_transport.specs.declared.status.Status.{Status}
 use Rattle.mail_transport.specs.declared.status.Status.TheVariants as statuses
 use Rattle.mail_transport.specs.HubSetup.{hub_setup}
 use Rattle.mail_transport.specs.Points.{Point, StandsAt, sure, IsFound, IsLeftAt, IsLeftBetween}
-use Rattle.mail_transport.specs.Run.{entries_finish, CutShort, BrokeOff, Starved, Overfull, Finishes, Ends, Leaves, fault_status, fault_told, status_of}
+use Rattle.mail_transport.specs.Run.{count_finish, entries_finish, CutShort, BrokeOff, Starved, Overfull, Finishes, Ends, Leaves, fault_status, fault_told, status_of}
 use Rattle.mail_transport.proofs.Stepping.{opened_at, all_kept}
 
 short_within : (p p' : Point) (then now : ℕ → Option ℕ) (f0 f1 f2 : ℕ) (Why : List Entry → List Entry → Type 0) → f0 ≤ f1 → CutShort p p' then now f1 f2 Why → CutShort p p' then now f0 f2 Why
@@ -35,8 +35,7 @@ broke_within p p' then now f0 f1 f2 first t =
 
 finishes_within : (p p' : Point) (then now : ℕ → Option ℕ) (f0 f1 f2 : ℕ) (status : Status) → f0 ≤ f1 → Finishes p p' then now f1 f2 status → Finishes p p' then now f0 f2 status
 finishes_within p p' then now f0 f1 f2 statuses.Done first t =
-    let missed = t.missed in
-    record { found = t.found; is_found = t.is_found; turn = t.turn; puts = t.puts; clock = t.clock; fits = t.fits; missed = omega (arith, first, missed); end = t.end }
+    record { found = t.found; is_found = t.is_found; turn = t.turn; puts = t.puts; clock = t.clock; fits = t.fits; tried = tried_within _ t.puts f0 f1 f2 first t.tried; end = t.end }
 finishes_within p p' then now f0 f1 f2 statuses.NoMemory first (inl none) = inl none
 finishes_within p p' then now f0 f1 f2 statuses.NoMemory first (inr t) = inr (short_within p p' then now f0 f1 f2 Starved first t)
 finishes_within p p' then now f0 f1 f2 statuses.LogFull first t = short_within p p' then now f0 f1 f2 Overfull first t
@@ -103,9 +102,9 @@ module _ (s s' : State) (hub hub' : Kept) (p : Point) (at : StandsAt s hub p) (t
       let front = behind_reached kept pending added m.reached m.within in
       inr (between p (sure (kept ++ added)) kept goes.0 front.0 m.reached c found goes.1 (append-nil (kept ++ added) ∙ ap (λ (l : List Entry). l ++ added) (sym all) ∙ front.1) m.stands)
 
-  pub turned : Gave then now (turn ∷ []) → Done hub_setup hub.broken s s' hub' p.settled p.doubtful mid (es mid) →
+  pub turned : EachTried (count_finish mid turn) puts s.shelf_faults s'.shelf_faults → Gave then now (turn ∷ []) → Done hub_setup hub.broken s s' hub' p.settled p.doubtful mid (es mid) →
       (p' : Point) × Finishes p p' then now s.shelf_faults s'.shelf_faults statuses.Done × Leaves p p' s s' statuses.Done
-  turned clock d =
+  turned tried clock d =
       let opened = opened_at hub.broken p.settled p.doubtful d.kept d.pending d.opened at.whole in
       let all = all_kept d.kept d.pending opened.1 in
       let state : mid ≡ standing hub_setup d.kept = d.state ∙ ap (standing hub_setup) all in
@@ -118,7 +117,7 @@ module _ (s s' : State) (hub hub' : Kept) (p : Point) (at : StandsAt s hub p) (t
           puts = puts;
           clock = clock;
           fits = subst (λ (st : Standing). Fits hub_setup.limits.log d.kept (es st)) state (subst (λ (g : List Entry). Fits hub_setup.limits.log g (es mid)) all d.fits);
-          missed = missed;
+          tried = subst (λ (st : Standing). EachTried (count_finish st turn) puts s.shelf_faults s'.shelf_faults) state tried;
           end = ap (λ (st : Standing). sure (d.kept ++ es st)) state;
         },
         record {

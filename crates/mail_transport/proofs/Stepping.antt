@@ -2,13 +2,13 @@
 use Rattle.std.proofs.Common.{◌≡◌, ◌⊎◌, inl, inr, ℕ, ◌+◌, ◌<◌, ◌≤◌, Bool, true, false, List, [], ◌∷◌, ◌++◌, length, Option, Some, None, Result, Ok, Err, refl, ap, ◌∙◌, sym, subst, arith, append_assoc, append-nil, length-append, cond}
 use Rattle.std.specs.Prelude.{IfOk, IfErr, OnOk, IsErrOf}
 use Rattle.port_io.specs.Causes.{Rose, RoseBy}
-use Rattle.mail_plan.specs.Submission.{Submitted}
-use Rattle.mail_plan.specs.declared.entry.Entry.{Entry}
-use Rattle.mail_plan.specs.declared.entry.Entry.TheVariants as entries
-use Rattle.mail_plan.specs.declared.intake.Accepted.{Accepted}
-use Rattle.mail_plan.specs.declared.intake.IntakeFault.{IntakeFault}
-use Rattle.mail_plan.specs.declared.intake.IntakeStep.{IntakeStep}
-use Rattle.mail_plan.specs.declared.intake.IntakeStep.TheVariants as steps
+use Rattle.mail_submission.specs.Submission.{Submitted}
+use Rattle.log_entry.specs.declared.entry.Entry.{Entry}
+use Rattle.log_entry.specs.declared.entry.Entry.TheVariants as entries
+use Rattle.mail_submission.specs.declared.intake.Accepted.{Accepted}
+use Rattle.mail_submission.specs.declared.intake.IntakeFault.{IntakeFault}
+use Rattle.mail_submission.specs.declared.intake.IntakeStep.{IntakeStep}
+use Rattle.mail_submission.specs.declared.intake.IntakeStep.TheVariants as steps
 use Rattle.plant_dev.specs.Disk.{State, Image, LeavesOnly}
 use Rattle.plant_dev.proofs.Offered.{joins, weakens}
 use Rattle.hub_core.specs.Setup.{setup_of}

@@ -1,7 +1,7 @@
 -- A session over one intake, told of another that makes the same steps.
 use Rattle.std.proofs.Common.{◌≡◌, ℕ, List, [], ◌∷◌, ◌++◌, Option, refl, ap, ◌∙◌, sym, subst, inl, inr}
 use Rattle.port_io.specs.Told.{AppendsPrefix}
-use Rattle.mail_plan.specs.declared.intake.IntakeStep.{IntakeStep}
+use Rattle.mail_submission.specs.declared.intake.IntakeStep.{IntakeStep}
 use Rattle.plant_dev.specs.Disk.{State, Stays as PlantStays}
 use Rattle.plant_dev.proofs.Offered.{stays_not, stays_more}
 use Rattle.smtp_front.specs.declared.react.Phase.{Phase}

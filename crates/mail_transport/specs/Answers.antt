@@ -1,11 +1,11 @@
 -- The answers that a history gives to a session's submissions, whatever the disk does.
 use Rattle.std.specs.Prelude.{◌≡◌, ◌⊎◌, ◌+◌, ℕ, List, ◌∷◌, ◌++◌, length, Ok, Err}
-use Rattle.mail_plan.specs.Submission.{Submitted}
-use Rattle.mail_plan.specs.declared.entry.Entry.{Entry}
-use Rattle.mail_plan.specs.declared.intake.Accepted.{Accepted}
-use Rattle.mail_plan.specs.declared.intake.IntakeFault.TheVariants as faults
-use Rattle.mail_plan.specs.declared.intake.IntakeStep.{IntakeStep}
-use Rattle.mail_plan.specs.declared.intake.IntakeStep.TheVariants as steps
+use Rattle.mail_submission.specs.Submission.{Submitted}
+use Rattle.log_entry.specs.declared.entry.Entry.{Entry}
+use Rattle.mail_submission.specs.declared.intake.Accepted.{Accepted}
+use Rattle.mail_submission.specs.declared.intake.IntakeFault.TheVariants as faults
+use Rattle.mail_submission.specs.declared.intake.IntakeStep.{IntakeStep}
+use Rattle.mail_submission.specs.declared.intake.IntakeStep.TheVariants as steps
 use Rattle.hub_core.specs.Standing.{standing}
 use Rattle.queue_store.specs.Room.{Fits, IsFull}
 use Rattle.queue_store.specs.Calls.{entries_submit, IsAccepted, IsQueueFull}

@@ -1,7 +1,7 @@
 -- What a hub stands for between two calls, and what a crash may leave.
 use Rattle.std.specs.Prelude.{◌≡◌, ◌⊎◌, ◌≤◌, ℕ, false, List, [], ◌∷◌, ◌++◌}
 use Rattle.port_io.specs.Causes.{Rose, RoseBy}
-use Rattle.mail_plan.specs.declared.entry.Entry.{Entry}
+use Rattle.log_entry.specs.declared.entry.Entry.{Entry}
 use Rattle.plant_dev.specs.Disk.{State, Image, LeavesOnly}
 use Rattle.queue_store.specs.Ready.{Kept, HubStands}
 use Rattle.queue_store.specs.Stands.{Stands, MayStand, Settled, IsOneOf}

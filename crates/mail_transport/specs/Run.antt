@@ -3,14 +3,15 @@ use Rattle.std.specs.Prelude.{◌≡◌, ◌⊎◌, ◌+◌, ℕ, Bool, false, L
 use Rattle.std.specs.Io.KnownBytes.{Appends, Consumes}
 use Rattle.port_io.specs.Causes.{Rose, RoseBy}
 use Rattle.port_io.specs.Told.{Gave}
-use Rattle.mail_plan.specs.declared.entry.Entry.{Entry}
+use Rattle.log_entry.specs.declared.entry.Entry.{Entry}
 use Rattle.plant_dev.specs.Disk.{State, LeavesOnly}
 use Rattle.hub_core.specs.Standing.{Standing, standing}
 use Rattle.queue_store.specs.declared.fault.HubFault.{HubFault}
 use Rattle.queue_store.specs.declared.fault.HubFault.TheVariants as faults
 use Rattle.queue_store.specs.Room.{Fits, IsFull}
+use Rattle.queue_store.specs.Opening.{IsLogOf, OpenFault}
 use Rattle.queue_store.specs.Stands.{Stands}
-use Rattle.queue_store.specs.Calls.{after_entries, entries_categorise, entries_turn, misses}
+use Rattle.queue_store.specs.Calls.{after_entries, count_tried, entries_categorise, entries_turn, misses, EachTried}
 use Rattle.smtp_front.specs.declared.session_end.SessionEnd.{SessionEnd}
 use Rattle.smtp_front.specs.declared.session_end.SessionEnd.TheVariants as ends
 use Rattle.smtp_front.specs.Sessions.{Spoke}
@@ -28,8 +29,12 @@ abbrev pub entries_finish : Standing → ℕ → List Bool → List Entry
 entries_finish s clock puts =
     entries_categorise hub_setup s ++ entries_turn hub_setup (after_entries hub_setup s (entries_categorise hub_setup s)) clock puts
 
+-- how many items that turn tries
+abbrev pub count_finish : Standing → ℕ → ℕ
+count_finish s clock = count_tried hub_setup (after_entries hub_setup s (entries_categorise hub_setup s)) clock
+
 -- All was categorised and a turn was made: their entries are settled behind the history that was found, each had room in the log, and
--- as many puts failed as the count of the shelf's faults rose at most.
+-- each item that waited was tried, the count of the shelf's faults having risen for each whose put failed.
 pub record Turned (p p' : Point) (then now : ℕ → Option ℕ) (faults faults' : ℕ) : Type 0 where
   pub found : List Entry
   pub is_found : IsFound p found
@@ -37,7 +42,7 @@ pub record Turned (p p' : Point) (then now : ℕ → Option ℕ) (faults faults'
   pub puts : List Bool
   pub clock : Gave then now (turn ∷ [])
   pub fits : Fits hub_setup.limits.log found (entries_finish (standing hub_setup found) turn puts)
-  pub missed : RoseBy (misses puts) faults faults'
+  pub tried : EachTried (count_finish (standing hub_setup found) turn) puts faults faults'
   pub end : p' ≡ sure (found ++ entries_finish (standing hub_setup found) turn puts)
 
 -- Categorising or the turn was cut short: some of their entries are settled behind the history that was found, and the others are left
@@ -127,6 +132,20 @@ Ends ends.Quit p p' then now faults faults' status = Finishes p p' then now faul
 Ends ends.EndOfInput p p' then now faults faults' status = Finishes p p' then now faults faults' status
 Ends end p p' then now faults faults' status = Stops p p' then now end status
 
+-- the exit status of the process
+abbrev pub code_of : Status → ℕ
+code_of statuses.Done = 0
+code_of statuses.Usage = 1
+code_of statuses.NoMemory = 2
+code_of statuses.DiskFault = 3
+code_of statuses.SourceFault = 4
+code_of statuses.SinkFault = 5
+code_of statuses.NotALog = 6
+code_of statuses.Cut = 7
+code_of statuses.BadOrganisation = 9
+code_of statuses.LogFull = 10
+code_of statuses.TooLong = 11
+
 -- whether a status tells a disk fault
 abbrev pub fault_told : Status → ℕ
 fault_told statuses.DiskFault = 1
@@ -164,6 +183,20 @@ pub record NotOpened (start : Point) (s s' : State) (old now : ℕ → Option �
   pub why : ((status ≡ statuses.DiskFault) × Rose s.disk_faults s'.disk_faults) ⊎ (status ≡ statuses.NoMemory)
   pub settled : IsSettledAt start s'
   pub moments : LeavesOnly s s' (IsLeftAt start)
+  pub clock : Gave old now []
+  pub sink : Appends taken taken' []
+  pub source : Consumes before left []
+
+-- The file is the log of a history, or of none.
+abbrev pub IsLog : List ℕ → Type 0
+IsLog file = (s : Standing) × IsLogOf hub_setup file s
+
+abbrev pub IsNoLog : List ℕ → Type 0
+IsNoLog file = (at : ℕ) × OpenFault hub_setup file (faults.NotALog at)
+
+-- No session was begun: the file is none, which the status tells, or a fault came. Nothing was read or said.
+pub record NotBegunOn (file : List ℕ) (old now : ℕ → Option ℕ) (taken taken' before left : Option (List ℕ)) (status : Status) : Type 0 where
+  pub why : ((status ≡ statuses.NotALog) × IsNoLog file) ⊎ ((status ≡ statuses.DiskFault) ⊎ (status ≡ statuses.NoMemory))
   pub clock : Gave old now []
   pub sink : Appends taken taken' []
   pub source : Consumes before left []

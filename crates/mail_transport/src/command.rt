@@ -3,7 +3,7 @@ ghost use Rattle.std.specs.Prelude.{◌≡◌, ◌⊎◌, true, false, map, IsTr
 ghost use Rattle.std.specs.Io.KnownBytes.{Appends};
 ghost use Rattle.port_io.specs.Causes.{Rose};
 ghost use Rattle.mail_transport.specs.Points.{Point, IsSettledAt};
-ghost use Rattle.mail_transport.specs.Run.{Checked, NotOpened, Ran, is_check, is_session, usage_text};
+ghost use Rattle.mail_transport.specs.Run.{Checked, IsLog, NotBegunOn, NotOpened, Ran, is_check, is_session, usage_text};
 
 use crate::check::{is_check, run_check};
 use crate::session::{is_session, run_session};
@@ -36,6 +36,10 @@ pub fn transport<S: Source, K: Sink, P: Plant, C: Clock>(
         ⊎ Ran start (P.state plant.old) (P.state plant.new) (C.moments clock.old) (C.moments clock.new) (K.taken sink.old) (K.taken sink.new) (S.left source.old) (S.left source.new) result }
     // Nor is a log told as none where the plant stands for a history.
     ensures log { (start : Point) → IsTrue (P.state plant.old).honest → IsSettledAt start (P.state plant.old) → result ≡ Status.NotALog → ⊥ }
+    // A session is begun on no file but a log, whatever the plant stood for before; one that is none is told so.
+    ensures file { is_session (map (λ word. word.now) words.now) ≡ true → IsTrue (P.state plant.old).honest →
+        IsLog (P.state plant.old).image.file
+        ⊎ NotBegunOn (P.state plant.old).image.file (C.moments clock.old) (C.moments clock.new) (K.taken sink.old) (K.taken sink.new) (S.left source.old) (S.left source.new) result }
     // A check says what its definition says.
     ensures check { is_check (map (λ word. word.now) words.now) ≡ true →
         Checked (S.left source.old) (S.left source.new) (K.taken sink.old) (K.taken sink.new) result }

@@ -5,7 +5,7 @@ ghost use Rattle.plant_dev.specs.Disk.{Stays};
 ghost use Rattle.smtp_front.specs.Sessions.{Spoke};
 ghost use Rattle.mail_transport.specs.Points.{Point, Trace, StandsAt, RunsAt, RunsOn, IsSettledAt};
 ghost use Rattle.mail_transport.specs.Answers.{RunGives};
-ghost use Rattle.mail_transport.specs.Run.{Ends, Finishes, Leaves, NotOpened, Ran, is_session};
+ghost use Rattle.mail_transport.specs.Run.{Ends, Finishes, IsLog, Leaves, NotBegunOn, NotOpened, Ran, is_session};
 
 use crate::status::{Status, ended, fault_status};
 use hub_core::Limits;
@@ -118,6 +118,9 @@ pub fn run_session<P: Plant, S: Source, K: Sink, C: Clock>(
         NotOpened start (P.state plant.old) (P.state plant.new) (C.moments clock.old) (C.moments clock.new) (K.taken sink.old) (K.taken sink.new) (S.left source.old) (S.left source.new) result
         ⊎ Ran start (P.state plant.old) (P.state plant.new) (C.moments clock.old) (C.moments clock.new) (K.taken sink.old) (K.taken sink.new) (S.left source.old) (S.left source.new) result }
     ensures log { (start : Point) → IsTrue (P.state plant.old).honest → IsSettledAt start (P.state plant.old) → result ≡ Status.NotALog → ⊥ }
+    ensures file { IsTrue (P.state plant.old).honest →
+        IsLog (P.state plant.old).image.file
+        ⊎ NotBegunOn (P.state plant.old).image.file (C.moments clock.old) (C.moments clock.new) (K.taken sink.old) (K.taken sink.new) (S.left source.old) (S.left source.new) result }
     ensures disk { result ≡ Status.DiskFault → Rose (P.state plant.old).disk_faults (P.state plant.new).disk_faults }
     ensures source { result ≡ Status.SourceFault → Rose (S.faults source.old) (S.faults source.new) }
     ensures sink { result ≡ Status.SinkFault → Rose (K.faults sink.old) (K.faults sink.new) }

@@ -1,6 +1,6 @@
 // How a call of the program ends.
 ghost use Rattle.std.specs.Prelude.{◌≡◌};
-ghost use Rattle.mail_transport.specs.Run.{fault_status, status_of, status_of_check};
+ghost use Rattle.mail_transport.specs.Run.{code_of, fault_status, status_of, status_of_check};
 
 use org_check::CheckEnd;
 use queue_store::HubFault;
@@ -34,7 +34,9 @@ pub enum Status {
 
 impl Status {
     /// The exit status of the process.
-    pub fn code(self) -> u8 {
+    pub fn code(self) -> u8
+        ensures { result ≡ code_of self }
+    {
         match self {
             Status::Done => 0,
             Status::Usage => 1,

@@ -25,6 +25,7 @@ pub record Verdict : Type 0 where
 abbrev pub fault_line : List ℕ → ℕ → ℕ → List ℕ
 fault_line words number place = words ++ (decimal number ++ (codes " at " ++ (decimal place ++ 10 ∷ [])))
 
+-- what is printed of a fault of the directory
 abbrev pub directory_fault : DirectoryFault → List ℕ
 directory_fault (faults.BadRow row) = fault_line (codes "directory fault ") 1 row
 directory_fault (faults.DoubleKey row) = fault_line (codes "directory fault ") 2 row
@@ -44,9 +45,11 @@ rules_fault (rule_faults.BadDate rule) = fault_line (codes "rules fault ") 6 rul
 rules_fault rule_faults.TooMany = fault_line (codes "rules fault ") 7 0
 rules_fault rule_faults.NoMemory = []
 
+-- the verdict that refuses with this line
 abbrev pub refusal_of : List ℕ → Verdict
 refusal_of line = record { line = line; passes = false }
 
+-- the verdict once the directory is read, by what the rules read to
 abbrev pub by_rules : Result Book RuleFault → Verdict
 by_rules (Ok book) = record { line = codes "ok" ++ 10 ∷ []; passes = true }
 by_rules (Err fault) = refusal_of (rules_fault fault)
@@ -56,6 +59,7 @@ abbrev pub judged : Result Register DirectoryFault → List ℕ → Verdict
 judged (Err fault) rules = refusal_of (directory_fault fault)
 judged (Ok directory) rules = by_rules (book_of rules directory)
 
+-- the verdict on a whole text
 abbrev pub verdict_of : List ℕ → Verdict
 verdict_of text = judged (register_of (directory_text text)) (rules_text text)
 

@@ -22,13 +22,16 @@ abbrev pub mark_from : ℕ → List ℕ → ℕ → Option ℕ
 mark_from zero text at = None
 mark_from (suc count) text at = if is_mark text at then Some at else mark_from count text (at + 1)
 
+-- where the first line %% begins
 abbrev pub first_mark : List ℕ → Option ℕ
 first_mark text = mark_from (length text) text 0
 
+-- what stands before the line %% at this place, or all where there is none
 abbrev pub before : List ℕ → Option ℕ → List ℕ
 before text None = text
 before text (Some at) = take at text
 
+-- what stands behind the line %% at this place, or nothing where there is none
 abbrev pub behind : List ℕ → Option ℕ → List ℕ
 behind text None = []
 behind text (Some at) = drop (mark_length (drop at text)) (drop at text)

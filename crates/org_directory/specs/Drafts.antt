@@ -6,6 +6,7 @@ use Rattle.org_directory.specs.declared.draft.Draft.{Draft}
 use Rattle.org_directory.specs.declared.draft.Drafts.{Drafts}
 use Rattle.org_directory.specs.declared.fault.DirectoryFault.{DirectoryFault}
 
+-- what the drafts say of the records read so far
 abbrev pub taken_of : Drafts → Taken
 taken_of d = record { rows = d.rows; domains = d.domains; drafts = d.drafts }
 
@@ -28,6 +29,7 @@ abbrev pub Takes : {U : Type 0} → Result U DirectoryFault → Result Taken Dir
 Takes (Ok u) given new = given ≡ Ok new
 Takes (Err e) given new = Fails e given
 
+-- What a call answers is what the first pass takes, unless memory ran out.
 abbrev pub TakesAll : Result Drafts DirectoryFault → Result Taken DirectoryFault → Type 0
 TakesAll (Ok d) given = given ≡ Ok (taken_of d)
 TakesAll (Err e) given = Fails e given

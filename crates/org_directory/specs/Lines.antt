@@ -19,6 +19,7 @@ use Rattle.moderation.specs.declared.tell.Tell.TheVariants as tells
 abbrev pub column : List (List ℕ) → ℕ → List ℕ
 column fields k = unwrap_or (field_at fields k) []
 
+-- the key, where reading gave one
 abbrev pub if_ok : Result (List ℕ) NameFault → Option (List ℕ)
 if_ok (Ok key) = Some key
 if_ok (Err e) = None
@@ -47,18 +48,21 @@ keys_from (Some keys) (part ∷ parts) = keys_from (one_more keys (key_in part))
 abbrev pub keys_in : List ℕ → Option (List (List ℕ))
 keys_in text = if is_empty text then Some [] else keys_from (Some []) (parts_from [] text)
 
+-- the kind that a text spells
 abbrev pub kind_in : List ℕ → Option Kind
 kind_in text =
     if bytes_eq text (codes "mailbox") then Some kinds.Mailbox
     else (if bytes_eq text (codes "contact") then Some kinds.Contact
     else (if bytes_eq text (codes "group") then Some kinds.Group else None))
 
+-- which senders are told of a refusal, as a text spells it
 abbrev pub tell_in : List ℕ → Option Tell
 tell_in text =
     if bytes_eq text (codes "always") then Some tells.Always
     else (if bytes_eq text (codes "internal") then Some tells.Internal
     else (if bytes_eq text (codes "never") then Some tells.Never else None))
 
+-- a text that says yes or no
 abbrev pub answer_in : List ℕ → Option Bool
 answer_in text = if bytes_eq text (codes "yes") then Some true else (if bytes_eq text (codes "no") then Some false else None)
 
@@ -76,6 +80,7 @@ says_nothing fields =
     is_empty (column fields 2) && (is_empty (column fields 3) && (bytes_eq (column fields 4) (codes "no")
     && (is_empty (column fields 5) && (is_empty (column fields 6) && bytes_eq (column fields 7) (codes "always")))))
 
+-- the record of an accepted domain, which says nothing else
 abbrev pub domain_in : List (List ℕ) → Option Line
 domain_in fields =
     if is_domain_name (column fields 0) && says_nothing fields then Some (lines.Domain (lower (column fields 0))) else None

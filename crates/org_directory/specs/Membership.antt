@@ -34,6 +34,7 @@ is_cleared reg o (Some sender) =
     among sender (keys_at reg o.moderators) || (among sender (keys_at reg o.owners)
     || (among sender (keys_at reg o.bypass) || list_any (λ group. is_in reg group sender) (keys_at reg o.bypass)))
 
+-- whether the object needs approval for a sender; no object needs none
 abbrev pub object_needs : Register → Option Object → Option (List ℕ) → Bool
 object_needs reg None sender = false
 object_needs reg (Some o) sender = o.moderated && not (is_cleared reg o sender)

@@ -49,6 +49,7 @@ abbrev pub and_then : {X Y : Type 0} → Result X DirectoryFault → (X → Resu
 and_then (Ok t) more = more t
 and_then (Err e) more = Err e
 
+-- The first pass takes one record after another, up to its first fault. A file has a header.
 abbrev pub first_pass : Taken → List (List (List ℕ)) → Result Taken DirectoryFault
 first_pass t [] = if t.rows == 0 then Err (faults.BadRow 1) else Ok t
 first_pass t (fields ∷ rows) = and_then (take_row t fields) (λ u. first_pass u rows)
@@ -57,13 +58,16 @@ first_pass t (fields ∷ rows) = and_then (take_row t fields) (λ u. first_pass 
 abbrev pub place_in : List (List ℕ) → List ℕ → Option ℕ
 place_in named key = position (bytes_eq key) named
 
+-- each of the keys is an object's
 abbrev pub are_known : List (List ℕ) → List (List ℕ) → Bool
 are_known named keys = list_all (λ key. is_some (place_in named key)) keys
 
+-- whether there is a draft, and it is a group's
 abbrev pub is_group_in : Option Draft → Bool
 is_group_in None = false
 is_group_in (Some d) = is_group d.kind
 
+-- whether a group's draft stands at the place, where there is a place
 abbrev pub group_at : List Draft → Option ℕ → Bool
 group_at drafts None = false
 group_at drafts (Some p) = is_group_in (slice_get drafts p)
@@ -93,6 +97,7 @@ abbrev pub second_pass : List Draft → List Draft → Option DirectoryFault
 second_pass drafts [] = None
 second_pass drafts (d ∷ ds) = or_else (fault_of drafts d) (second_pass drafts ds)
 
+-- A key that is no object's would stand at 0, but the second pass refuses it.
 abbrev pub place_or_0 : List (List ℕ) → List ℕ → ℕ
 place_or_0 named key = unwrap_or (place_in named key) 0
 
@@ -109,10 +114,12 @@ placed named d = record {
   tell = d.tell;
 }
 
+-- the directory, unless there is a fault
 abbrev pub unless_fault : Option DirectoryFault → Register → Result Register DirectoryFault
 unless_fault (Some e) reg = Err e
 unless_fault None reg = Ok reg
 
+-- the second pass, over what the first one took
 abbrev pub both_passes : Taken → Result Register DirectoryFault
 both_passes t = unless_fault (second_pass t.drafts t.drafts) (record { domains = t.domains; objects = map (placed (keys_of t.drafts)) t.drafts })
 
@@ -122,6 +129,7 @@ register_of text =
     if nat_lt 16777216 (length text) then Err (faults.BadRow 1)
     else and_then (first_pass none_taken (records default_config (strip_bom text))) both_passes
 
+-- A fault is the one that reading gives, but want of memory may come at any time.
 abbrev pub Fails : {X : Type 0} → DirectoryFault → Result X DirectoryFault → Type 0
 Fails faults.NoMemory read = Unit {0}
 Fails e read = read ≡ Err e

@@ -24,6 +24,7 @@ is_inside reg key = among (domain_of key) reg.domains
 abbrev pub place_of : Register → List ℕ → Option ℕ
 place_of reg key = position (λ o. bytes_eq key o.key) reg.objects
 
+-- the object at a place, where there is one
 abbrev pub object_at : Register → Option ℕ → Option Object
 object_at reg None = None
 object_at reg (Some p) = slice_get reg.objects p
@@ -37,6 +38,7 @@ is_group kinds.Group = true
 is_group kinds.Mailbox = false
 is_group kinds.Contact = false
 
+-- a mailbox or a contact, or no object and outside
 abbrev pub takes_mail : Option Object → Bool → Bool
 takes_mail None inside = not inside
 takes_mail (Some o) inside = not (is_group o.kind)
@@ -45,6 +47,7 @@ takes_mail (Some o) inside = not (is_group o.kind)
 abbrev pub is_deliverable : Register → List ℕ → Bool
 is_deliverable reg key = takes_mail (object_of reg key) (is_inside reg key)
 
+-- the key of an object, or no bytes where there is none
 abbrev pub key_or_none : Option Object → List ℕ
 key_or_none None = []
 key_or_none (Some o) = o.key

@@ -5,7 +5,7 @@ use Rattle.std.specs.List.{flat_map}
 use Rattle.std.specs.Option.{option_map}
 use Rattle.mail_message.specs.Message.{Mail, is_named, value_of, text}
 use Rattle.mail_message.specs.Edits.{remove_field}
-use Rattle.mail_plan.specs.Submission.{Submitted}
+use Rattle.mail_submission.specs.Submission.{Submitted}
 use Rattle.pickup_box.specs.declared.pickup.PickupBad.{PickupBad}
 use Rattle.pickup_box.specs.declared.pickup.PickupBad.TheVariants as bad
 use Rattle.pickup_box.specs.Addresses.{addresses}

@@ -7,8 +7,8 @@ use Rattle.mail_names.specs.Key.{key_of}
 use Rattle.mail_message.specs.Message.{Mail, is_named, value_of, text}
 use Rattle.mail_message.specs.Edits.{remove_field}
 use Rattle.mail_message.specs.ReadOf.{read_of}
-use Rattle.mail_plan.specs.Submission.{Submitted, submission_of}
-use Rattle.mail_plan.specs.declared.submission.Origin.TheVariants as origins
+use Rattle.mail_submission.specs.Submission.{Submitted, submission_of}
+use Rattle.mail_submission.specs.declared.submission.Origin.TheVariants as origins
 use Rattle.pickup_box.specs.declared.pickup.PickupBad.{PickupBad}
 use Rattle.pickup_box.specs.declared.pickup.PickupBad.TheVariants as bad
 use Rattle.pickup_box.specs.LineEnds.{with_crlf}

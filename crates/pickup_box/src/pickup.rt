@@ -14,7 +14,7 @@ use crate::header::fields_of;
 use crate::line_ends::with_crlf;
 use mail_message::{Message, MessageFault};
 use mail_names::{Bytes, Items, Key, NameFault, NoMemory};
-use mail_plan::{Origin, Submission, SubmissionFault};
+use mail_submission::{Origin, Submission, SubmissionFault};
 use std::alloc::Global;
 
 /// Why a file stands for no submission.

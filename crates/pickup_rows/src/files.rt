@@ -2,7 +2,7 @@
 use crate::octets::Answer;
 use crate::row::{Fault, Row, number};
 use mail_names::{Bytes, Key};
-use mail_plan::Submission;
+use mail_submission::Submission;
 use pickup_box::{PickupBad, bad_name, begun_name, begun_stem, new_stem, order_of, pickup_of};
 use std::alloc::Global;
 

@@ -1,7 +1,7 @@
 // Logs over a plant in memory.
 use crate::octets::answer;
+use log_entry::Entry;
 use mail_names::{Bytes, ItemName, NoMemory};
-use mail_plan::Entry;
 use plant_dev::MemoryPlant;
 use queue_disk::{Log, LogFault, open_log, read_all};
 use std::alloc::Global;

@@ -2,11 +2,11 @@
 use Rattle.std.proofs.Common.{◌≡◌, ℕ, ◌+◌, List, [], ◌∷◌, ◌++◌, length, sym, ◌∙◌, ap, arith, append_assoc, length-append}
 use Rattle.std.specs.Prelude.{codes}
 use Rattle.std.proofs.lemmas.List.{append-nil, map-append}
-use Rattle.mail_plan.specs.declared.entry.Entry.{Entry}
+use Rattle.log_entry.specs.declared.entry.Entry.{Entry}
 use Rattle.std.specs.List.{AllByRecursion}
-use Rattle.mail_plan.specs.EntryText.{le64, entry_text}
+use Rattle.log_entry.specs.EntryText.{le64, entry_text}
 use Rattle.queue_disk.specs.Log.{records, log_text, payloads, log_of}
-use Rattle.mail_plan.proofs.Offered.{length-le64}
+use Rattle.log_entry.proofs.Offered.{length-le64}
 
 pub records-push : (ps : List (List ℕ)) (payload : List ℕ) → records (ps ++ payload ∷ []) ≡ records ps ++ 1 ∷ (le64 (length payload) ++ payload)
 records-push [] payload = ap (λ (l : List ℕ). 1 ∷ (le64 (length payload) ++ l)) (append-nil payload)

@@ -5,10 +5,10 @@ use Rattle.std.specs.List.{AllByRecursion}
 use Rattle.std.proofs.lemmas.List.{map-append}
 use Rattle.plant_dev.specs.Disk.{State, Image, images, Torn, Holds, OnFile, Writes, LeavesOnly, From, Durable}
 use Rattle.plant_dev.proofs.Offered.{started, goes_on, joins, weakens}
-use Rattle.mail_plan.specs.declared.entry.Entry.{Entry}
-use Rattle.mail_plan.specs.Entries.{IsEntry}
-use Rattle.mail_plan.specs.EntryText.{le64, entry_text}
-use Rattle.mail_plan.proofs.Offered.{length-le64}
+use Rattle.log_entry.specs.declared.entry.Entry.{Entry}
+use Rattle.log_entry.specs.Entries.{IsEntry}
+use Rattle.log_entry.specs.EntryText.{le64, entry_text}
+use Rattle.log_entry.proofs.Offered.{length-le64}
 use Rattle.queue_disk.specs.View.{LogView}
 use Rattle.queue_disk.specs.Log.{records, log_text, payloads, log_of, frame, Frames, gate_left_out, beyond, staged, Shut, Staged, Opened, LogOf, FileOf, IsOpen, AllOrNone}
 use Rattle.queue_disk.proofs.Entries.{records-push, payloads-push, all-push}

@@ -3,10 +3,10 @@ use Rattle.std.proofs.Common.{◌≡◌, ◌≢◌, inl, inr, ℕ, ◌+◌, ◌<
 use Rattle.std.specs.Prelude.{◌⊎◌, IsErrAnd, IfErr}
 use Rattle.std.specs.List.{AllByRecursion}
 use Rattle.std.proofs.lemmas.List.{append-nil, take_at, drop_at, drop-drop}
-use Rattle.mail_plan.specs.declared.entry.Entry.{Entry}
-use Rattle.mail_plan.specs.EntryText.{le64, entry_text}
-use Rattle.mail_plan.specs.Entries.{IsEntry}
-use Rattle.mail_plan.proofs.Offered.{length-le64, le64_same, one_entry}
+use Rattle.log_entry.specs.declared.entry.Entry.{Entry}
+use Rattle.log_entry.specs.EntryText.{le64, entry_text}
+use Rattle.log_entry.specs.Entries.{IsEntry}
+use Rattle.log_entry.proofs.Offered.{length-le64, le64_same, one_entry}
 use Rattle.queue_disk.specs.declared.fault.LogFault.{LogFault}
 use Rattle.queue_disk.specs.declared.fault.LogFault.TheVariants.{DiskFault, NotALog, NoMemory, LogFull}
 use Rattle.queue_disk.specs.Log.{records, payloads, log_of, LogOf}

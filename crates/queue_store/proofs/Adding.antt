@@ -4,10 +4,10 @@ use Rattle.std.specs.Prelude.{fold, IsErrAnd, IfErr, OnOk, OnErr}
 use Rattle.std.proofs.lemmas.Grind.{fold-append}
 use Rattle.mail_names.specs.declared.name.ApprovalName.{ApprovalName}
 use Rattle.moderation.specs.declared.approval.Verdict.{Verdict}
-use Rattle.mail_plan.specs.Submission.{Submitted}
-use Rattle.mail_plan.specs.declared.entry.Entry.{Entry}
-use Rattle.mail_plan.specs.declared.entry.Entry.TheVariants as entries
-use Rattle.mail_plan.specs.EntryText.{entry_text}
+use Rattle.mail_submission.specs.Submission.{Submitted}
+use Rattle.log_entry.specs.declared.entry.Entry.{Entry}
+use Rattle.log_entry.specs.declared.entry.Entry.TheVariants as entries
+use Rattle.log_entry.specs.EntryText.{entry_text}
 use Rattle.plant_dev.specs.Disk.{State, LeavesOnly}
 use Rattle.plant_dev.proofs.Offered.{joins, weakens}
 use Rattle.queue_disk.specs.declared.fault.LogFault.{LogFault}

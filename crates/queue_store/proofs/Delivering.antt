@@ -4,8 +4,8 @@ use Rattle.std.specs.Prelude.{fold, find}
 use Rattle.std.specs.List.{AllByRecursion}
 use Rattle.std.proofs.lemmas.Grind.{fold-append}
 use Rattle.mail_names.specs.declared.name.ItemName.{ItemName}
-use Rattle.mail_plan.specs.declared.entry.Entry.{Entry}
-use Rattle.mail_plan.specs.declared.entry.Entry.TheVariants as entries
+use Rattle.log_entry.specs.declared.entry.Entry.{Entry}
+use Rattle.log_entry.specs.declared.entry.Entry.TheVariants as entries
 use Rattle.plant_dev.specs.declared.plant.Stored.{Stored}
 use Rattle.plant_dev.specs.declared.plant.ShelfFault.{ShelfFault}
 use Rattle.plant_dev.specs.Disk.{State, images, Stays, Shelves, LeavesOnly}

@@ -1,6 +1,6 @@
 -- Calls one behind another: entries that are pending, and then a run that settles all.
 use Rattle.std.proofs.Common.{◌≡◌, ◌⊎◌, inl, inr, Bool, true, false, List, [], ◌++◌, ap, ◌∙◌, sym, subst, append_assoc}
-use Rattle.mail_plan.specs.declared.entry.Entry.{Entry}
+use Rattle.log_entry.specs.declared.entry.Entry.{Entry}
 use Rattle.plant_dev.specs.Disk.{State, Image, LeavesOnly}
 use Rattle.plant_dev.proofs.Offered.{joins, weakens}
 use Rattle.hub_core.specs.Setup.{Setup}

@@ -2,8 +2,8 @@
 use Rattle.std.proofs.Common.{List, ◌++◌, Result, Ok, Err}
 use Rattle.std.specs.Prelude.{OnOk}
 use Rattle.std.specs.List.{AllByRecursion}
-use Rattle.mail_plan.specs.Entries.{IsEntry}
-use Rattle.mail_plan.specs.declared.entry.Entry.{Entry}
+use Rattle.log_entry.specs.Entries.{IsEntry}
+use Rattle.log_entry.specs.declared.entry.Entry.{Entry}
 use Rattle.plant_dev.specs.Disk.{State}
 use Rattle.queue_disk.proofs.Offered.{all-append}
 use Rattle.hub_core.specs.Setup.{Setup}

@@ -2,7 +2,7 @@
 use Rattle.std.proofs.Common.{◌≡◌, ◌⊎◌, inl, inr, Bool, true, List, [], ◌++◌, Result, Ok, Err, refl, ap, ◌∙◌, sym, subst, append_assoc, append-nil}
 use Rattle.std.specs.Prelude.{fold, OnOk, IfErr}
 use Rattle.std.proofs.lemmas.Grind.{fold-append}
-use Rattle.mail_plan.specs.declared.entry.Entry.{Entry}
+use Rattle.log_entry.specs.declared.entry.Entry.{Entry}
 use Rattle.plant_dev.specs.Disk.{State, Image, LeavesOnly}
 use Rattle.plant_dev.proofs.Offered.{joins, weakens}
 use Rattle.hub_core.specs.Setup.{Setup}
@@ -12,7 +12,7 @@ use Rattle.queue_store.specs.Room.{Fits}
 use Rattle.queue_store.specs.Stands.{Stands, MayStand}
 use Rattle.queue_store.specs.Ready.{Kept, IsReady, IsBroken, Before, Mended, Adds, Breaks, Stops, Leaves, FailsBy, FailsLater, Reaches, MidCall, MidBreak, Turns, BreaksOff, TurnStops, FailsSettling, SettlesRest}
 use Rattle.queue_store.specs.Calls.{after_entries}
-use Rattle.queue_store.specs.Turning.{Done, Broke, FailsWhole, FailsPartly, Leads, LeadsSettled, LeadsOn, LeadsThrough}
+use Rattle.queue_store.specs.Turning.{Done, Broke, FailsWhole, FailsPartly, Leads, LeadsSettled, LeadsOn}
 use Rattle.queue_store.proofs.Adding.{fits-joined, leaves-more, grows}
 
 -- What a moment of a call reaches, a moment of a longer one does.
@@ -240,7 +240,7 @@ run-moments setup s0 s1 s2 broken h t P first second =
     joins s0 s1 s2 (λ c. Before setup broken h t c ⊎ P c) (weakens s0 s1 (Before setup broken h t) (λ c. Before setup broken h t c ⊎ P c) (λ c may. inl may) first)
     (weakens s1 s2 P (λ c. Before setup broken h t c ⊎ P c) (λ c mid. inr mid) second)
 
-done : (setup : Setup) (s0 s1 s2 : State) (hub hub' : Kept) (h t es : List Entry) (broken : Bool) (m : Mended setup broken s1 hub h t) → LeavesOnly s0 s1 (Before setup broken h t) →
+pub done : (setup : Setup) (s0 s1 s2 : State) (hub hub' : Kept) (h t es : List Entry) (broken : Bool) (m : Mended setup broken s1 hub h t) → LeavesOnly s0 s1 (Before setup broken h t) →
     Turns setup s1 s2 hub' m.kept m.pending es → Done setup broken s0 s2 hub' h t hub.state es
 done setup s0 s1 s2 hub hub' h t es broken m first turns = record {
   kept = m.kept;
@@ -268,7 +268,7 @@ broke setup s0 s1 s2 hub hub' h t es broken m first off = record {
   moments = run-moments setup s0 s1 s2 broken h t (MidBreak setup m.kept m.pending es (off.settled ++ off.left)) first off.moments;
 }
 
-partly : (setup : Setup) (s0 s1 s2 : State) (hub hub' : Kept) (h t es : List Entry) (e : HubFault) (broken : Bool) (m : Mended setup broken s1 hub h t) → LeavesOnly s0 s1 (Before setup broken h t) →
+pub partly : (setup : Setup) (s0 s1 s2 : State) (hub hub' : Kept) (h t es : List Entry) (e : HubFault) (broken : Bool) (m : Mended setup broken s1 hub h t) → LeavesOnly s0 s1 (Before setup broken h t) →
     TurnStops setup s1 s2 hub' m.kept m.pending es e → FailsPartly setup broken s0 s2 hub' h t hub.state es e
 partly setup s0 s1 s2 hub hub' h t es e broken m first (inl (disk, off)) = inr (inl (disk, broke setup s0 s1 s2 hub hub' h t es broken m first off))
 partly setup s0 s1 s2 hub hub' h t es e broken m first (inr stops) = inr (inr (record {
@@ -297,11 +297,6 @@ wholly setup s0 s1 s2 hub hub' h t es Why e broken m first (inr declined) = inr 
   why = declined.why;
   moments = run-moments setup s0 s1 s2 broken h t (λ c. Stands setup c m.kept) first declined.moments;
 }))
-
-pub leads_through : {T : Type 0} (setup : Setup) (s0 s1 s2 : State) (hub hub' : Kept) (h t es : List Entry) (result : Result T HubFault) (broken : Bool) (m : Mended setup broken s1 hub h t) → LeavesOnly s0 s1 (Before setup broken h t) →
-    OnOk result (Turns setup s1 s2 hub' m.kept m.pending es) → IfErr result (TurnStops setup s1 s2 hub' m.kept m.pending es) → LeadsThrough setup broken s0 s2 hub' h t hub.state es result
-leads_through setup s0 s1 s2 hub hub' h t es (Ok answer) broken m first turns stops = done setup s0 s1 s2 hub hub' h t es broken m first turns
-leads_through setup s0 s1 s2 hub hub' h t es (Err e) broken m first turns stops = partly setup s0 s1 s2 hub hub' h t es e broken m first stops
 
 pub leads_settled : {T : Type 0} (setup : Setup) (s0 s1 s2 : State) (hub hub' : Kept) (h t es : List Entry) (Why : List Entry → HubFault → Type 0) (result : Result T HubFault) (broken : Bool) (m : Mended setup broken s1 hub h t) → LeavesOnly s0 s1 (Before setup broken h t) →
     OnOk result (Turns setup s1 s2 hub' m.kept m.pending es) → IfErr result (FailsSettling setup s1 s2 hub' m.kept m.pending es (Why (m.kept ++ m.pending))) → LeadsSettled setup broken s0 s2 hub' h t hub.state es Why result

@@ -1,6 +1,6 @@
 -- What a hub stands for over calls that add entries, settle them, or open the log.
 use Rattle.std.proofs.Common.{◌≡◌, inl, inr, ℕ, IsTrue, true, false, List, [], ◌∷◌, ◌++◌, length, refl, ap, ◌∙◌, sym, subst, arith, append_assoc, append-nil}
-use Rattle.mail_plan.specs.declared.entry.Entry.{Entry}
+use Rattle.log_entry.specs.declared.entry.Entry.{Entry}
 use Rattle.plant_dev.specs.declared.plant.Stored.{Stored}
 use Rattle.plant_dev.specs.Disk.{State, Image, images, OnFile, From, Follows as Comes, LeavesOnly, Durable}
 use Rattle.plant_dev.proofs.Offered.{started, weakens}

@@ -5,8 +5,8 @@ use Rattle.std.proofs.lemmas.Bool.Decides.{nat_tests}
 use Rattle.mail_names.specs.declared.name.ApprovalName.{ApprovalName}
 use Rattle.moderation.specs.declared.approval.Verdict.{Verdict}
 use Rattle.mail_plan.specs.Planning.{Input, is_release}
-use Rattle.mail_plan.specs.declared.entry.Entry.{Entry}
-use Rattle.mail_plan.specs.declared.entry.Entry.TheVariants as entries
+use Rattle.log_entry.specs.declared.entry.Entry.{Entry}
+use Rattle.log_entry.specs.declared.entry.Entry.TheVariants as entries
 use Rattle.mail_plan.specs.declared.release.Release.{Release}
 use Rattle.plant_dev.specs.Disk.{State}
 use Rattle.hub_core.specs.Setup.{Texts, Setup}

@@ -2,12 +2,13 @@
 use Rattle.std.specs.Prelude.{◌≡◌, ◌||◌, nat_lt, ℕ, not, map, count_by, Bool, true, false, if◌then◌else◌, List, [], ◌∷◌, ◌++◌, length, fold, find, Option, Some, None}
 use Rattle.mail_names.specs.declared.name.ApprovalName.{ApprovalName}
 use Rattle.mail_names.specs.declared.name.ItemName.{ItemName}
+use Rattle.port_io.specs.Causes.{RoseBy}
 use Rattle.moderation.specs.declared.approval.Verdict.{Verdict}
-use Rattle.mail_plan.specs.Submission.{Submitted}
-use Rattle.mail_plan.specs.declared.entry.Entry.{Entry}
-use Rattle.mail_plan.specs.declared.entry.Entry.TheVariants as entries
+use Rattle.mail_submission.specs.Submission.{Submitted}
+use Rattle.log_entry.specs.declared.entry.Entry.{Entry}
+use Rattle.log_entry.specs.declared.entry.Entry.TheVariants as entries
 use Rattle.hub_core.specs.declared.queue.QueuedItem.{QueuedItem}
-use Rattle.mail_plan.specs.declared.intake.Accepted.{Accepted}
+use Rattle.mail_submission.specs.declared.intake.Accepted.{Accepted}
 use Rattle.hub_core.specs.declared.command.Reply.TheVariants as replies
 use Rattle.mail_plan.specs.Planning.{Input}
 use Rattle.hub_core.specs.declared.live.TaskName.{TaskName}
@@ -95,6 +96,11 @@ entries_turn setup s clock puts =
     then moment_entry s clock ∷ entries_trying setup (state_after setup s (moment_entry s clock)) puts
     else []
 
+-- how many items a turn at this clock tries: all that wait behind its moment
+abbrev pub count_tried : Setup → Standing → ℕ → ℕ
+count_tried setup s clock =
+    if nat_lt 0 (length s.waiting) || any_pends s then length (names_waiting (state_after setup s (moment_entry s clock))) else 0
+
 -- The entry tells a delivery.
 abbrev pub IsDelivery : Entry → Type 0
 IsDelivery (entries.Delivered name) = Unit {0}
@@ -107,6 +113,11 @@ IsDelivery (entries.Moment moment) = ⊥
 -- how many puts failed
 abbrev pub misses : List Bool → ℕ
 misses puts = count_by not puts
+
+-- There was a put for each of so many items, and the count of the shelf's faults rose for each that failed.
+pub record EachTried (count : ℕ) (puts : List Bool) (before now : ℕ) : Type 0 where
+  pub each : length puts ≡ count
+  pub missed : RoseBy (misses puts) before now
 
 -- The number that a submission is answered with is that of the one that it repeats, or else the next.
 abbrev pub IsAccepted : Standing → Submitted → Accepted → Type 0

@@ -1,12 +1,12 @@
 -- What the calls of an office do: which answer, and which hub and plant, a call may give.
 use Rattle.std.specs.Prelude.{◌≡◌, ◌+◌, ℕ, false, List, length, Result, Ok, Err, IfOk, IfErr, OnOk, IsErrOf}
 use Rattle.port_io.specs.Causes.{Rose}
-use Rattle.mail_plan.specs.Submission.{Submitted}
-use Rattle.mail_plan.specs.declared.entry.Entry.{Entry}
-use Rattle.mail_plan.specs.declared.intake.Accepted.{Accepted}
-use Rattle.mail_plan.specs.declared.intake.IntakeFault.{IntakeFault}
-use Rattle.mail_plan.specs.declared.intake.IntakeStep.{IntakeStep}
-use Rattle.mail_plan.specs.declared.intake.IntakeStep.TheVariants as steps
+use Rattle.mail_submission.specs.Submission.{Submitted}
+use Rattle.log_entry.specs.declared.entry.Entry.{Entry}
+use Rattle.mail_submission.specs.declared.intake.Accepted.{Accepted}
+use Rattle.mail_submission.specs.declared.intake.IntakeFault.{IntakeFault}
+use Rattle.mail_submission.specs.declared.intake.IntakeStep.{IntakeStep}
+use Rattle.mail_submission.specs.declared.intake.IntakeStep.TheVariants as steps
 use Rattle.plant_dev.specs.Disk.{State, Stays, LeavesOnly}
 use Rattle.hub_core.specs.declared.limits.Limits.{Limits}
 use Rattle.hub_core.specs.Setup.{Setup}

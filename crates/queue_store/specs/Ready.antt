@@ -1,7 +1,7 @@
 -- When a hub stands over a plant for a history.
 use Rattle.std.specs.Prelude.{◌≡◌, ◌⊎◌, ℕ, true, false, Bool, IsTrue, List, [], ◌++◌}
-use Rattle.mail_plan.specs.declared.entry.Entry.{Entry}
-use Rattle.mail_plan.specs.declared.entry.Entry.TheVariants as entries
+use Rattle.log_entry.specs.declared.entry.Entry.{Entry}
+use Rattle.log_entry.specs.declared.entry.Entry.TheVariants as entries
 use Rattle.mail_names.specs.declared.name.ItemName.{ItemName}
 use Rattle.plant_dev.specs.declared.plant.Stored.{Stored}
 use Rattle.plant_dev.specs.Shelf.{Has}

@@ -1,7 +1,7 @@
 -- What an image of log file and shelf stands for.
 use Rattle.std.specs.Prelude.{◌≡◌, ◌⊎◌, List, [], ◌∷◌, ◌++◌}
 use Rattle.mail_names.specs.declared.name.ItemName.{ItemName}
-use Rattle.mail_plan.specs.declared.entry.Entry.{Entry}
+use Rattle.log_entry.specs.declared.entry.Entry.{Entry}
 use Rattle.plant_dev.specs.declared.plant.Stored.{Stored}
 use Rattle.plant_dev.specs.Disk.{State, Image, images}
 use Rattle.plant_dev.specs.Shelf.{Has, HasNoNameTwice, item_of}

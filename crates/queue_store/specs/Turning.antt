@@ -1,7 +1,7 @@
 -- What a call leaves, also where a fault had broken the log off and it is opened first.
 use Rattle.std.specs.Prelude.{◌≡◌, ◌⊎◌, ℕ, Bool, true, List, [], ◌++◌, Result, Ok, Err}
 use Rattle.port_io.specs.Causes.{RoseBy}
-use Rattle.mail_plan.specs.declared.entry.Entry.{Entry}
+use Rattle.log_entry.specs.declared.entry.Entry.{Entry}
 use Rattle.plant_dev.specs.Disk.{State, Image, LeavesOnly}
 use Rattle.hub_core.specs.Setup.{Setup}
 use Rattle.hub_core.specs.Standing.{Standing, standing}
@@ -10,7 +10,7 @@ use Rattle.queue_store.specs.declared.fault.HubFault.TheVariants as faults
 use Rattle.queue_store.specs.Room.{Fits}
 use Rattle.queue_store.specs.Stands.{Stands, MayStand}
 use Rattle.queue_store.specs.Ready.{Kept, IsReady, IsBroken, IsOpened, Before, Grows, Leaves, Reaches, MidCall, MidBreak}
-use Rattle.queue_store.specs.Calls.{entries_turn, misses}
+use Rattle.queue_store.specs.Calls.{count_tried, entries_turn, misses, EachTried}
 
 -- an image of a moment of a call that first opens the log where it was broken off, and then adds these entries
 abbrev pub MidRun : Setup → Bool → List Entry → List Entry → List Entry → List Entry → List Entry → Image → Type 0
@@ -99,12 +99,9 @@ abbrev pub LeadsOn : {T : Type 0} → Setup → Bool → State → State → Kep
 LeadsOn setup broken s s' hub h t mid es (Ok answer) = Grows setup broken s s' hub h t mid es
 LeadsOn setup broken s s' hub h t mid es (Err fault) = FailsPartly setup broken s s' hub h t mid es fault
 
--- and one that settles all that it adds
-abbrev pub LeadsThrough : {T : Type 0} → Setup → Bool → State → State → Kept → List Entry → List Entry → Standing → List Entry → Result T HubFault → Type 0
-LeadsThrough setup broken s s' hub h t mid es (Ok answer) = Done setup broken s s' hub h t mid es
-LeadsThrough setup broken s s' hub h t mid es (Err fault) = FailsPartly setup broken s s' hub h t mid es fault
-
--- a turn, where the puts went so
+-- A turn, where the puts went so. It tries each item that waits behind its moment, unless it stops before.
 abbrev pub LeadsTurn : {T : Type 0} → Setup → Bool → State → State → Kept → List Entry → List Entry → Standing → ℕ → Result T HubFault → Type 0
-LeadsTurn setup broken s s' hub h t mid clock result =
-    (puts : List Bool) × RoseBy (misses puts) s.shelf_faults s'.shelf_faults × LeadsThrough setup broken s s' hub h t mid (entries_turn setup mid clock puts) result
+LeadsTurn setup broken s s' hub h t mid clock (Ok answer) =
+    (puts : List Bool) × EachTried (count_tried setup mid clock) puts s.shelf_faults s'.shelf_faults × Done setup broken s s' hub h t mid (entries_turn setup mid clock puts)
+LeadsTurn setup broken s s' hub h t mid clock (Err fault) =
+    (puts : List Bool) × RoseBy (misses puts) s.shelf_faults s'.shelf_faults × FailsPartly setup broken s s' hub h t mid (entries_turn setup mid clock puts) fault

@@ -1,8 +1,8 @@
 // The hub: the state of its history, kept in step with the log.
 ghost use Rattle.std.specs.Prelude.{◌≡◌, ◌≢◌, ◌⊎◌, ◌+◌, List, [], ◌∷◌, ◌++◌, true, false, IsTrue, IsOk, IsOkAnd, length, IfOk, IfErr, OnOk, OnErr, IsErrOf, None};
 ghost use Rattle.port_io.specs.Causes.{Rose};
-ghost use Rattle.mail_plan.specs.declared.entry.Entry.TheVariants as entries;
-ghost use Rattle.mail_plan.specs.declared.entry.Entry.{Entry};
+ghost use Rattle.log_entry.specs.declared.entry.Entry.TheVariants as entries;
+ghost use Rattle.log_entry.specs.declared.entry.Entry.{Entry};
 ghost use Rattle.plant_dev.specs.Disk.{Stays, LeavesOnly};
 ghost use Rattle.hub_core.specs.declared.limits.Limits.{Limits};
 ghost use Rattle.hub_core.specs.Setup.{Setup, setup_of, texts_of};
@@ -16,7 +16,9 @@ mod planning;
 
 use crate::HubFault;
 use hub_core::{State, StepFault};
-use mail_plan::{Accepted, Entry, Outcome, Planner, Submission};
+use log_entry::Entry;
+use mail_plan::{Outcome, Planner};
+use mail_submission::{Accepted, Submission};
 use plant_dev::Plant;
 use port_io::Failed;
 use queue_disk::Log;

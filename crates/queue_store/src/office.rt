@@ -3,7 +3,8 @@ ghost use Rattle.std.specs.Prelude.{◌≡◌};
 ghost use Rattle.queue_store.specs.Faults.{intake_fault};
 
 use crate::{Hub, HubFault};
-use mail_plan::{Accepted, Intake, IntakeFault, Planner, Submission};
+use mail_plan::Planner;
+use mail_submission::{Accepted, Intake, IntakeFault, Submission};
 use plant_dev::Plant;
 use std::alloc::Global;
 

@@ -3,7 +3,8 @@ ghost use Rattle.std.specs.Prelude.{◌≤◌};
 
 use categorizer::{HubOrg, release};
 use mail_names::{Bytes, Gate, Items, Key, LAST_MOMENT, NoMemory};
-use mail_plan::{Opening, Origin, Release, ReleaseInput, Submission};
+use mail_plan::{Opening, Release, ReleaseInput};
+use mail_submission::{Origin, Submission};
 use std::alloc::Global;
 use std::sync::Arc;
 

@@ -145,6 +145,7 @@ abbrev pub outcome_at : Progress → Option End → RuleOutcome
 outcome_at progress None = record { copies = progress.copies; end = ends.Keep (now progress) }
 outcome_at progress (Some end) = record { copies = progress.copies; end = end }
 
+-- the outcome of a fold that came to this stage
 abbrev pub outcome_of : Stage → RuleOutcome
 outcome_of last = outcome_at last.progress last.end
 

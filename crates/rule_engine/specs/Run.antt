@@ -47,6 +47,7 @@ copy_text copied = copied.text
 abbrev pub used : RuleOutcome → List (List ℕ)
 used outcome = map copy_text outcome.copies ++ end_texts outcome.end
 
+-- the texts that these outcomes use, in order
 abbrev pub all_used : List RuleOutcome → List (List ℕ)
 all_used [] = []
 all_used (outcome ∷ others) = used outcome ++ all_used others

@@ -20,6 +20,7 @@ pub record Setting : Type 0 where
   pub sender : Option (List ℕ)
   pub moment : ℕ
 
+-- a member, at any depth, of the object, where there is one
 abbrev pub is_in_object : Register → List ℕ → Option Object → Bool
 is_in_object reg key None = false
 is_in_object reg key (Some o) = is_in reg o.key key
@@ -41,6 +42,7 @@ of_sender test (Some key) = test key
 abbrev pub has_one : List (List ℕ) → List ℕ → Bool
 has_one words text = list_any (λ word. has_word word text) words
 
+-- one of the words stands in the value, where there is one
 abbrev pub value_has_one : List (List ℕ) → Option (List ℕ) → Bool
 value_has_one words None = false
 value_has_one words (Some value) = has_one words value
@@ -67,6 +69,7 @@ abbrev pub has_begun : Option ℕ → ℕ → Bool
 has_begun None moment = true
 has_begun (Some from) moment = nat_le from moment
 
+-- whether the moment has come at which a rule ends, if it does
 abbrev pub has_ended : Option ℕ → ℕ → Bool
 has_ended None moment = false
 has_ended (Some until) moment = nat_le until moment

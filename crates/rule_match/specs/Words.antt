@@ -12,6 +12,7 @@ folded text = if is_utf8 text then encode_utf8_all (default_case_fold (chars tex
 abbrev pub is_word_byte : ℕ → Bool
 is_word_byte b = is_ascii_alphanumeric b || nat_le 128 b
 
+-- the first byte is a word byte
 abbrev pub begins_in_word : List ℕ → Bool
 begins_in_word [] = false
 begins_in_word (b ∷ bs) = is_word_byte b
@@ -31,5 +32,6 @@ abbrev pub stands_in : Bool → List ℕ → List ℕ → Bool
 stands_in joined word [] = false
 stands_in joined word (b ∷ bs) = (not joined && is_front word (b ∷ bs)) || stands_in (is_word_byte b) word bs
 
+-- The word stands in the text by itself, compared without case.
 abbrev pub has_word : List ℕ → List ℕ → Bool
 has_word word text = stands_in false (folded word) (folded text)

@@ -76,6 +76,7 @@ abbrev pub are_distinct : List (List ℕ) → Bool
 are_distinct [] = true
 are_distinct (key ∷ keys) = not (list_any (bytes_eq key) keys) && are_distinct keys
 
+-- the values of a term have their form
 abbrev pub is_term : Term → Bool
 is_term (terms.SenderIs keys) = are_few keys
 is_term (terms.RecipientIs keys) = are_few keys
@@ -95,6 +96,7 @@ is_term (terms.SizeAtLeast bytes) = true
 abbrev pub is_code : ℕ → Bool
 is_code code = code == 1 || is_within 900 999 code
 
+-- the values of an action have their form
 abbrev pub is_action : Action → Bool
 is_action (actions.Prepend text) = is_line text
 is_action (actions.SetField field text) = is_field field && is_line text

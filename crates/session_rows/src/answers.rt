@@ -1,6 +1,6 @@
 // An intake that gives the script's answers.
 use mail_names::NoMemory;
-use mail_plan::{Accepted, Intake, IntakeFault, Submission};
+use mail_submission::{Accepted, Intake, IntakeFault, Submission};
 use std::alloc::Global;
 
 /// Gives these answers in order, and then number 1 for good.

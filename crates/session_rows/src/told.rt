@@ -4,7 +4,7 @@ ghost use Rattle.std.specs.Prelude.{◌<◌};
 use crate::answers::Answers;
 use crate::scene::Scene;
 use mail_names::{Bytes, NoMemory};
-use mail_plan::Submission;
+use mail_submission::Submission;
 use port_io::{MemoryClock, MemorySink, MemorySource};
 use smtp_front::session;
 use std::alloc::Global;

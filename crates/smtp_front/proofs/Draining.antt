@@ -5,7 +5,7 @@ use Rattle.std.specs.Io.KnownBytes.{Appends}
 use Rattle.port_io.specs.Told.{AppendsPrefix}
 use Rattle.port_io.proofs.Offered.{Consumes-nothing, Appends-twice}
 use Rattle.mail_names.specs.Lines.{lines_of}
-use Rattle.mail_plan.specs.declared.intake.IntakeStep.{IntakeStep}
+use Rattle.mail_submission.specs.declared.intake.IntakeStep.{IntakeStep}
 use Rattle.smtp_front.specs.declared.dialog.Event.{Event}
 use Rattle.smtp_front.specs.declared.dialog.Dialog.{Dialog}
 use Rattle.smtp_front.specs.declared.react.Phase.{Phase}

@@ -6,7 +6,7 @@ use Rattle.std.specs.Option.{is_some}
 use Rattle.std.specs.Io.KnownBytes.{Appends}
 use Rattle.port_io.specs.Told.{Gave, Tells}
 use Rattle.port_io.proofs.Offered.{Appends-twice, Appends-nothing}
-use Rattle.mail_plan.specs.declared.intake.IntakeStep.{IntakeStep}
+use Rattle.mail_submission.specs.declared.intake.IntakeStep.{IntakeStep}
 use Rattle.smtp_front.specs.declared.dialog.Event.{Event}
 use Rattle.smtp_front.specs.declared.react.Phase.{Phase}
 use Rattle.smtp_front.specs.declared.react.Deed.{Deed}

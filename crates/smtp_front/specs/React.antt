@@ -1,10 +1,10 @@
 -- What an event does: the table of verbs, each with its checks in order.
 use Rattle.std.specs.Prelude.{ℕ, nat_lt, Bool, true, false, if◌then◌else◌, List, [], ◌∷◌, ◌++◌, length, codes, Option, Some, None, Result, Ok, Err}
-use Rattle.mail_plan.specs.declared.submission.Origin.TheVariants as origins
-use Rattle.mail_plan.specs.declared.submission.SubmissionFault.{SubmissionFault}
-use Rattle.mail_plan.specs.declared.submission.SubmissionFault.TheVariants as faults
-use Rattle.mail_plan.specs.declared.submission.TheConstants.{MOST_RECIPIENTS}
-use Rattle.mail_plan.specs.Submission.{Submitted, submission_of}
+use Rattle.mail_submission.specs.declared.submission.Origin.TheVariants as origins
+use Rattle.mail_submission.specs.declared.submission.SubmissionFault.{SubmissionFault}
+use Rattle.mail_submission.specs.declared.submission.SubmissionFault.TheVariants as faults
+use Rattle.mail_submission.specs.declared.submission.TheConstants.{MOST_RECIPIENTS}
+use Rattle.mail_submission.specs.Submission.{Submitted, submission_of}
 use Rattle.smtp_front.specs.declared.verb.Verb.{Verb}
 use Rattle.smtp_front.specs.declared.verb.Verb.TheVariants as verbs
 use Rattle.smtp_front.specs.declared.dialog.Event.{Event}

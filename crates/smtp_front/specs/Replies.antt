@@ -1,8 +1,8 @@
 -- The replies of a session.
 use Rattle.std.specs.Prelude.{ℕ, List, [], ◌∷◌, ◌++◌, codes, decimal, Result, Ok, Err}
-use Rattle.mail_plan.specs.declared.intake.Accepted.{Accepted}
-use Rattle.mail_plan.specs.declared.intake.IntakeFault.{IntakeFault}
-use Rattle.mail_plan.specs.declared.intake.IntakeFault.TheVariants as faults
+use Rattle.mail_submission.specs.declared.intake.Accepted.{Accepted}
+use Rattle.mail_submission.specs.declared.intake.IntakeFault.{IntakeFault}
+use Rattle.mail_submission.specs.declared.intake.IntakeFault.TheVariants as faults
 use Rattle.smtp_front.specs.declared.reply.Line.{Line}
 use Rattle.smtp_front.specs.declared.reply.Line.TheVariants as lines
 use Rattle.smtp_front.specs.declared.reply.Reply.{Reply}

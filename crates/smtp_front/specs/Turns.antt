@@ -2,11 +2,11 @@
 use Rattle.std.specs.Prelude.{◌≡◌, ℕ, true, if◌then◌else◌, List, [], ◌∷◌, ◌++◌, Option, Some, None, Result, Ok, Err}
 use Rattle.std.specs.Io.KnownBytes.{Appends}
 use Rattle.port_io.specs.Told.{Gave}
-use Rattle.mail_plan.specs.declared.intake.Accepted.{Accepted}
-use Rattle.mail_plan.specs.declared.intake.IntakeFault.{IntakeFault}
-use Rattle.mail_plan.specs.declared.intake.IntakeFault.TheVariants as faults
-use Rattle.mail_plan.specs.declared.intake.IntakeStep.{IntakeStep}
-use Rattle.mail_plan.specs.declared.intake.IntakeStep.TheVariants as steps
+use Rattle.mail_submission.specs.declared.intake.Accepted.{Accepted}
+use Rattle.mail_submission.specs.declared.intake.IntakeFault.{IntakeFault}
+use Rattle.mail_submission.specs.declared.intake.IntakeFault.TheVariants as faults
+use Rattle.mail_submission.specs.declared.intake.IntakeStep.{IntakeStep}
+use Rattle.mail_submission.specs.declared.intake.IntakeStep.TheVariants as steps
 use Rattle.smtp_front.specs.declared.dialog.Event.{Event}
 use Rattle.smtp_front.specs.declared.reply.Line.TheVariants as lines
 use Rattle.smtp_front.specs.declared.reply.Reply.{Reply}

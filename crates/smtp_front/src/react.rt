@@ -10,7 +10,7 @@ use crate::reply::{Line, Reply};
 use crate::texts::trimmed;
 use crate::verb::{Verb, argument_of, verb_of, word_of};
 use mail_names::{Bytes, Items, Key, NoMemory};
-use mail_plan::{MOST_RECIPIENTS, Origin, Submission, SubmissionFault};
+use mail_submission::{MOST_RECIPIENTS, Origin, Submission, SubmissionFault};
 use std::alloc::Global;
 
 /// How far a session is.

@@ -2,7 +2,7 @@
 ghost use Rattle.std.specs.Prelude.{◌≡◌, Result};
 ghost use Rattle.smtp_front.specs.Replies.{line_text, answer_reply};
 
-use mail_plan::{Accepted, IntakeFault};
+use mail_submission::{Accepted, IntakeFault};
 
 /// A reply with a fixed text.
 #[derive(Clone, Copy, Debug, PartialEq, Eq)]

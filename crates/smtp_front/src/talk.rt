@@ -2,8 +2,8 @@
 ghost use Rattle.std.specs.Prelude.{◌≡◌, ◌≢◌, ◌<◌, ◌≤◌, ℕ, List, IfOk, IfErr, OnOk, Ok, Err, Option, None};
 ghost use Rattle.std.specs.Io.KnownBytes.{Appends, Consumes};
 ghost use Rattle.port_io.specs.Causes.{Rose};
-ghost use Rattle.mail_plan.specs.declared.intake.Accepted.{Accepted};
-ghost use Rattle.mail_plan.specs.declared.intake.IntakeFault.{IntakeFault};
+ghost use Rattle.mail_submission.specs.declared.intake.Accepted.{Accepted};
+ghost use Rattle.mail_submission.specs.declared.intake.IntakeFault.{IntakeFault};
 ghost use Rattle.smtp_front.specs.declared.react.Phase.{Phase};
 ghost use Rattle.smtp_front.specs.Events.{Held, nothing, next_of};
 ghost use Rattle.smtp_front.specs.Holds.{Holds, unread};
@@ -18,7 +18,7 @@ use crate::react::{Deed, Phase, react};
 use crate::reply::{Line, Reply, answer_reply};
 use crate::session_end::SessionEnd;
 use mail_names::{Bytes, NoMemory};
-use mail_plan::{Accepted, Intake, IntakeFault};
+use mail_submission::{Accepted, Intake, IntakeFault};
 use port_io::{Clock, Failed, Sink, Source, read_piece, write_all_to};
 use std::alloc::Global;
 

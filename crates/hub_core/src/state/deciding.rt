@@ -10,8 +10,9 @@ use crate::asking::Asking;
 use crate::ending::{all_told, refused_told};
 use crate::live::asking_for;
 use crate::{Reply, StepFault};
+use log_entry::Entry;
 use mail_names::{ApprovalName, Key};
-use mail_plan::{Entry, Planner};
+use mail_plan::Planner;
 use moderation::{Decision, Verdict};
 use std::alloc::Global;
 

@@ -1,8 +1,8 @@
 // Decisions on approvals.
 ghost use Rattle.std.specs.Prelude.{◌≡◌, ◌⊎◌, List, [], ◌∷◌, ◌++◌, true, false, Some, IsTrue, IsOk, IfOk, IfErr, OnOk, IsErrOf};
 ghost use Rattle.port_io.specs.Causes.{Rose};
-ghost use Rattle.mail_plan.specs.declared.entry.Entry.{Entry};
-ghost use Rattle.mail_plan.specs.declared.entry.Entry.TheVariants as entries;
+ghost use Rattle.log_entry.specs.declared.entry.Entry.{Entry};
+ghost use Rattle.log_entry.specs.declared.entry.Entry.TheVariants as entries;
 ghost use Rattle.plant_dev.specs.Disk.{Stays, LeavesOnly};
 ghost use Rattle.hub_core.specs.declared.limits.Limits.{Limits};
 ghost use Rattle.hub_core.specs.Setup.{setup_of};
@@ -17,8 +17,9 @@ ghost use Rattle.queue_store.specs.Deciding.{IsDecision, IsDecisionReply, Answer
 use super::Hub;
 use crate::HubFault;
 use hub_core::Reply;
+use log_entry::Entry;
 use mail_names::{ApprovalName, Key, NoMemory};
-use mail_plan::{Entry, Planner};
+use mail_plan::Planner;
 use moderation::{Decision, Verdict};
 use plant_dev::Plant;
 use std::alloc::Global;

@@ -1,14 +1,14 @@
 // Categorising what was accepted, and turns in which what waits is tried.
-ghost use Rattle.std.specs.Prelude.{◌≡◌, ◌≤◌, ◌⊎◌, ◌||◌, nat_lt, length, List, [], ◌∷◌, ◌++◌, false, Bool, IsTrue, IfOk, IfErr, OnOk, IsErrOf, Ok, true};
+ghost use Rattle.std.specs.Prelude.{◌≡◌, ◌≤◌, ◌||◌, nat_lt, length, List, [], ◌∷◌, false, Bool, IsTrue, IfOk, IfErr, OnOk, IsErrOf, Ok, true};
 ghost use Rattle.port_io.specs.Causes.{Rose, RoseBy};
-ghost use Rattle.mail_plan.specs.declared.entry.Entry.{Entry};
+ghost use Rattle.log_entry.specs.declared.entry.Entry.{Entry};
 ghost use Rattle.plant_dev.specs.Disk.{Stays, LeavesOnly};
 ghost use Rattle.hub_core.specs.Items.{items, Among};
 ghost use Rattle.hub_core.specs.declared.limits.Limits.{Limits};
 ghost use Rattle.hub_core.specs.Setup.{Setup, setup_of};
 ghost use Rattle.hub_core.specs.Standing.{Standing, any_pends};
 ghost use Rattle.std.specs.List.{AllByRecursion};
-ghost use Rattle.mail_plan.specs.declared.entry.Entry.TheVariants as entries;
+ghost use Rattle.log_entry.specs.declared.entry.Entry.TheVariants as entries;
 ghost use Rattle.queue_store.specs.Stands.{Stands};
 ghost use Rattle.queue_store.specs.Ready.{Kept, IsReady, HubStands, Adds, Fails, FailsLater, Turns, TurnStops, EachHas};
 ghost use Rattle.queue_store.specs.Turning.{LeadsOn, LeadsTurn};
@@ -16,13 +16,14 @@ ghost use Rattle.queue_store.specs.Turning.{LeadsOn, LeadsTurn};
 use super::Hub;
 use crate::HubFault;
 use hub_core::{QueuedItem, TaskName};
+use log_entry::Entry;
 use mail_names::{ItemName, NoMemory};
-use mail_plan::{Entry, Planner, plan};
+use mail_plan::{Planner, plan};
 use plant_dev::{Plant, ShelfFault};
 use std::alloc::Global;
 
 impl<T: Planner> Hub<T> {
-    ghost use Rattle.queue_store.specs.Calls.{after_entries, entries_at, entries_all, entries_categorise, entries_try, entries_tries, entries_trying, entries_turn, misses, IsDelivery};
+    ghost use Rattle.queue_store.specs.Calls.{count_tried, entries_at, entries_all, entries_categorise, entries_try, entries_tries, entries_trying, entries_turn, misses, names_waiting, EachTried, IsDelivery};
 
     // Categorises a release, where it waits.
     fn categorise<P: Plant>(
@@ -161,7 +162,7 @@ impl<T: Planner> Hub<T> {
     ) -> Result<(), HubFault>
         ensures adds { (setup : Setup) (h t : List Entry) → AllByRecursion IsDelivery t → IsReady setup (P.state plant.old) self.old h t → OnOk result ((puts : List Bool)
             × Adds setup (P.state plant.old) (P.state plant.new) self.new h t (entries_tries setup self.old.state names.now puts)
-            × RoseBy (misses puts) (P.state plant.old).shelf_faults (P.state plant.new).shelf_faults) }
+            × EachTried (length names.now) puts (P.state plant.old).shelf_faults (P.state plant.new).shelf_faults) }
         ensures stops { (setup : Setup) (h t : List Entry) → AllByRecursion IsDelivery t → IsReady setup (P.state plant.old) self.old h t →
             IfErr result (λ e. (puts : List Bool)
             × FailsLater setup (P.state plant.old) (P.state plant.new) self.new h t (entries_tries setup self.old.state names.now puts) e
@@ -183,7 +184,7 @@ impl<T: Planner> Hub<T> {
     fn try_waiting<P: Plant>(&mut self, alloc: Global, plant: &mut P) -> Result<(), HubFault>
         ensures adds { (setup : Setup) (h t : List Entry) → AllByRecursion IsDelivery t → IsReady setup (P.state plant.old) self.old h t → OnOk result ((puts : List Bool)
             × Adds setup (P.state plant.old) (P.state plant.new) self.new h t (entries_trying setup self.old.state puts)
-            × RoseBy (misses puts) (P.state plant.old).shelf_faults (P.state plant.new).shelf_faults) }
+            × EachTried (length (names_waiting self.old.state)) puts (P.state plant.old).shelf_faults (P.state plant.new).shelf_faults) }
         ensures stops { (setup : Setup) (h t : List Entry) → AllByRecursion IsDelivery t → IsReady setup (P.state plant.old) self.old h t →
             IfErr result (λ e. (puts : List Bool)
             × FailsLater setup (P.state plant.old) (P.state plant.new) self.new h t (entries_trying setup self.old.state puts) e
@@ -203,7 +204,7 @@ impl<T: Planner> Hub<T> {
     fn try_settled<P: Plant>(&mut self, alloc: Global, plant: &mut P) -> Result<(), HubFault>
         ensures turns { (setup : Setup) (h : List Entry) → IsReady setup (P.state plant.old) self.old h [] → OnOk result ((puts : List Bool)
             × Turns setup (P.state plant.old) (P.state plant.new) self.new h [] (entries_trying setup self.old.state puts)
-            × RoseBy (misses puts) (P.state plant.old).shelf_faults (P.state plant.new).shelf_faults) }
+            × EachTried (length (names_waiting self.old.state)) puts (P.state plant.old).shelf_faults (P.state plant.new).shelf_faults) }
         ensures stops { (setup : Setup) (h : List Entry) → IsReady setup (P.state plant.old) self.old h [] →
             IfErr result (λ e. (puts : List Bool)
             × TurnStops setup (P.state plant.old) (P.state plant.new) self.new h [] (entries_trying setup self.old.state puts) e
@@ -251,7 +252,7 @@ impl<T: Planner> Hub<T> {
         requires { (nat_lt 0 (length self.old.state.waiting) || any_pends self.old.state) ≡ true }
         ensures turns { (limits : Limits) (h t : List Entry) → IsReady (setup_of T.means limits) (P.state plant.old) self.old h t → OnOk result ((puts : List Bool)
             × Turns (setup_of T.means limits) (P.state plant.old) (P.state plant.new) self.new h t (entries_turn (setup_of T.means limits) self.old.state clock puts)
-            × RoseBy (misses puts) (P.state plant.old).shelf_faults (P.state plant.new).shelf_faults) }
+            × EachTried (count_tried (setup_of T.means limits) self.old.state clock) puts (P.state plant.old).shelf_faults (P.state plant.new).shelf_faults) }
         ensures stops { (limits : Limits) (h t : List Entry) → IsReady (setup_of T.means limits) (P.state plant.old) self.old h t →
             IfErr result (λ e. (puts : List Bool)
             × TurnStops (setup_of T.means limits) (P.state plant.old) (P.state plant.new) self.new h t (entries_turn (setup_of T.means limits) self.old.state clock puts) e
@@ -276,7 +277,7 @@ impl<T: Planner> Hub<T> {
     ) -> Result<(), HubFault>
         ensures turns { (limits : Limits) (h t : List Entry) → IsReady (setup_of T.means limits) (P.state plant.old) self.old h t → OnOk result ((puts : List Bool)
             × Turns (setup_of T.means limits) (P.state plant.old) (P.state plant.new) self.new h t (entries_turn (setup_of T.means limits) self.old.state clock puts)
-            × RoseBy (misses puts) (P.state plant.old).shelf_faults (P.state plant.new).shelf_faults) }
+            × EachTried (count_tried (setup_of T.means limits) self.old.state clock) puts (P.state plant.old).shelf_faults (P.state plant.new).shelf_faults) }
         ensures stops { (limits : Limits) (h t : List Entry) → IsReady (setup_of T.means limits) (P.state plant.old) self.old h t →
             IfErr result (λ e. (puts : List Bool)
             × TurnStops (setup_of T.means limits) (P.state plant.old) (P.state plant.new) self.new h t (entries_turn (setup_of T.means limits) self.old.state clock puts) e

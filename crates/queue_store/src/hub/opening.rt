@@ -1,7 +1,7 @@
 // Opening: the state that the entries of a log leave.
 ghost use Rattle.std.specs.Prelude.{◌≡◌, ◌⊎◌, [], List, length, true, false, IsTrue, IfOk, IfErr, OnOk, IsErrOf};
 ghost use Rattle.port_io.specs.Causes.{Rose};
-ghost use Rattle.mail_plan.specs.declared.entry.Entry.{Entry};
+ghost use Rattle.log_entry.specs.declared.entry.Entry.{Entry};
 ghost use Rattle.plant_dev.specs.Disk.{Stays, Reads, LeavesOnly};
 ghost use Rattle.queue_disk.specs.Log.{FileOf, log_of};
 ghost use Rattle.queue_disk.specs.Reading.{IsHeld, IsRead, Begins};
@@ -9,12 +9,13 @@ ghost use Rattle.hub_core.specs.declared.limits.Limits.{Limits};
 ghost use Rattle.hub_core.specs.Setup.{setup_of};
 ghost use Rattle.hub_core.specs.Standing.{standing, state_after, is_lawful};
 ghost use Rattle.hub_core.specs.Items.{IsHistory};
-ghost use Rattle.queue_store.specs.Opening.{OpenFault};
+ghost use Rattle.queue_store.specs.Opening.{IsLogOf, OpenFault};
 
 use super::Hub;
 use crate::HubFault;
 use hub_core::{Limits, State, StepFault};
-use mail_plan::{Entry, Planner};
+use log_entry::Entry;
+use mail_plan::Planner;
 use plant_dev::Plant;
 use queue_disk::{Log, open_log};
 use std::alloc::Global;
@@ -44,6 +45,8 @@ impl<T: Planner> Hub<T> {
         ensures settled { (h t : List Entry) → IsTrue (P.state plant.old).honest → Settled (setup_of T.means limits) (P.state plant.old) h t →
             IfErr result (λ e. ((e ≡ HubFault.DiskFault) ⊎ (e ≡ HubFault.NoMemory)) × Settled (setup_of T.means limits) (P.state plant.new) h t) }
         ensures bad { IsTrue (P.state plant.old).honest → IfErr result (λ e. OpenFault (setup_of T.means limits) (P.state plant.old).image.file e) }
+        // Of any file that is opened: it is the log of the entries that left the hub's state.
+        ensures found { IsTrue (P.state plant.old).honest → IfOk result (λ hub. IsLogOf (setup_of T.means limits) (P.state plant.old).image.file hub.state) }
         ensures open { IfOk result (λ hub. hub.broken ≡ false) }
         ensures shelf { IsTrue (P.state plant.old).honest → (P.state plant.new).image.shelf ≡ (P.state plant.old).image.shelf }
         ensures stays { Stays (P.state plant.old) (P.state plant.new) }
@@ -69,6 +72,7 @@ impl<T: Planner> Hub<T> {
         ensures settled { (h t : List Entry) → IsTrue (P.state plant.old).honest → Settled (setup_of T.means limits) (P.state plant.old) h t →
             IfErr result (λ e. ((e ≡ HubFault.DiskFault) ⊎ (e ≡ HubFault.NoMemory)) × Settled (setup_of T.means limits) (P.state plant.new) h t) }
         ensures bad { IsTrue (P.state plant.old).honest → IfErr result (λ e. OpenFault (setup_of T.means limits) (P.state plant.old).image.file e) }
+        ensures found { IsTrue (P.state plant.old).honest → IfOk result (λ hub. IsLogOf (setup_of T.means limits) (P.state plant.old).image.file hub.state) }
         ensures open { IfOk result (λ hub. hub.broken ≡ false) }
         ensures shelf { IsTrue (P.state plant.old).honest → (P.state plant.new).image.shelf ≡ (P.state plant.old).image.shelf }
         ensures stays { Stays (P.state plant.old) (P.state plant.new) }
@@ -125,6 +129,8 @@ fn replay<P: Plant, T: Planner>(
         IfErr result (λ e. (e ≡ HubFault.DiskFault) ⊎ (e ≡ HubFault.NoMemory)) }
     ensures bad { IsTrue (P.state plant.old).honest → IsHeld (P.state plant.old).image.file log.old → Begins (P.state plant.old).image.file [] log.old.place →
         IfErr result (λ e. OpenFault (setup_of T.means limits) (P.state plant.old).image.file e) }
+    ensures whole { IsTrue (P.state plant.old).honest → IsHeld (P.state plant.old).image.file log.old → Begins (P.state plant.old).image.file [] log.old.place →
+        IfOk result (λ state. IsLogOf (setup_of T.means limits) (P.state plant.old).image.file state) }
 {
     let mut state = State::start(alloc, limits)?;
     while let Some(entry) = log.next(alloc, plant)? {

@@ -2,7 +2,7 @@
 ghost use Rattle.std.specs.Prelude.{◌≡◌, ◌<◌, ◌++◌, List, false, IsTrue, IsOk, IfOk, IfErr, IfSome, OnOk, IsErrOf, option_map, unwrap_or};
 ghost use Rattle.std.specs.Arc.{arc_value};
 ghost use Rattle.port_io.specs.Causes.{Rose};
-ghost use Rattle.mail_plan.specs.declared.entry.Entry.{Entry};
+ghost use Rattle.log_entry.specs.declared.entry.Entry.{Entry};
 ghost use Rattle.plant_dev.specs.Disk.{Stays, LeavesOnly};
 ghost use Rattle.hub_core.specs.declared.limits.Limits.{Limits};
 ghost use Rattle.hub_core.specs.Setup.{Setup, setup_of, texts_of};
@@ -18,8 +18,9 @@ ghost use Rattle.queue_store.specs.Planning.{IsOrgReply, AnswersOrg, IsCommitRep
 use super::Hub;
 use crate::{CommitEnd, HubFault};
 use hub_core::Reply;
+use log_entry::Entry;
 use mail_names::{Bytes, NoMemory};
-use mail_plan::{Entry, Outcome, Planner, Task};
+use mail_plan::{Outcome, Planner, Task};
 use plant_dev::Plant;
 use std::alloc::Global;
 

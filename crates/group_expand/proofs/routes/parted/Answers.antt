@@ -14,5 +14,5 @@ loop-way-preserved c =
           c.loop-way.leaves c.put.new.leaves c.loop-way.invariant.0 (ap not is) c.in_ok-put.ensures.leaves,
       part-more closed_of (λ w. shuts c.args.directory.now c.args.gates.now w.key) c.loop-way.yielded c.in-Some.way c.in_ok-is_closed.is_closed
           c.loop-way.closed c.put.new.closed c.loop-way.invariant.1 is c.in_ok-put.ensures.closed,
-      record { room = c.in_ok-is_closed.ensures.same.room; same = c.in_ok-is_closed.ensures.same.same ∙ same },
+      record { ready = c.in_ok-is_closed.ensures.same.ready; same = c.in_ok-is_closed.ensures.same.same ∙ same },
     )

@@ -33,6 +33,6 @@ returns-in_ok-run-in-Some-clause-holds g c = λ whole roots h.
 
 pub returns-in_ok-run-in-Some-clause-gates : goal.returns-in_ok-run-in-Some-clause-gates
 returns-in_ok-run-in-Some-clause-gates g c = record {
-  room = c.in_ok-run-in-Some.ensures.gates.room;
+  ready = c.in_ok-run-in-Some.ensures.gates.ready;
   same = c.in_ok-run-in-Some.ensures.gates.same ∙ c.in_ok-visit-in-Some.ensures.gates.same;
 }

@@ -7,7 +7,7 @@ use Rattle.group_expand.proofs.walk.run.Goals as goal
 pub loop-alloc-preserved : goal.loop-alloc-preserved
 loop-alloc-preserved g c =
     let same : shuts c.args.directory.now c.loop-alloc.gates ≡ shuts c.args.directory.now c.args.gates.now = c.loop-alloc.invariant.0.same in (
-      record { room = c.in_ok-step.ensures.gates.room; same = c.in_ok-step.ensures.gates.same ∙ same },
+      record { ready = c.in_ok-step.ensures.gates.ready; same = c.in_ok-step.ensures.gates.same ∙ same },
       c.in_ok-step.ensures.ready,
       (λ whole roots h. subst (λ f. Holds c.args.directory.now f whole roots c.step.new.marks c.step.new.stack.items c.step.new.found) same
           (c.in_ok-step.ensures.holds whole roots

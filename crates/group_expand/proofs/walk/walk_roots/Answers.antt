@@ -23,5 +23,5 @@ loop-root-preserved g c =
           (subst (λ f. Holds c.args.directory.now f whole (c.root-item.result ∷ drop (c.loop-root.root-index + 1) c.args.roots.now) c.loop-root.marks [] c.loop-root.found) (sym same)
           (subst (λ rs. Holds c.args.directory.now (shuts c.args.directory.now c.args.gates.now) whole rs c.loop-root.marks [] c.loop-root.found) first c.loop-root.invariant.2))),
       omega (arith, c.in_ok-root_step.ensures.cost, c.loop-root.invariant.3),
-      record { room = c.in_ok-root_step.ensures.gates.room; same = c.in_ok-root_step.ensures.gates.same ∙ same },
+      record { ready = c.in_ok-root_step.ensures.gates.ready; same = c.in_ok-root_step.ensures.gates.same ∙ same },
     )

@@ -1,7 +1,7 @@
-use Rattle.std.proofs.Common.{[], inl, inr, refl, arith}
-use Rattle.hub_core.specs.Standing.{usual}
-use Rattle.queue_store.specs.Calls.{after_entries, entries_categorise, entries_turn}
-use Rattle.queue_store.proofs.Offered.{partly_more, finished, unfinished}
+use Rattle.std.proofs.Common.{[], inl, inr, refl, ap, ◌∙◌, arith}
+use Rattle.hub_core.specs.Standing.{Standing, usual}
+use Rattle.queue_store.specs.Calls.{after_entries, count_tried, entries_categorise, entries_turn}
+use Rattle.queue_store.proofs.Offered.{partly_more, finished, grown_state, tried_along, tried_within, unfinished}
 use Rattle.mail_transport.specs.HubSetup.{hub_setup}
 use Rattle.mail_transport.proofs.Running.{turned, failed, uncategorised}
 use Rattle.mail_transport.proofs.session.finish.Goals as goal
@@ -49,7 +49,9 @@ returns-in-Ok-turn-clause-finishes g c p at =
     let later = c.categorise_all.ensures.stays.shelf_faults in
     let second = c.in-Ok-turn.ensures.turns in
     let tried = second.2 usual grown.kept _ (inl grown.ready) in
-    let rose = tried.1 in
+    let rose = tried.1.missed in
     let moment = c.now-turn.result in
-    turned s s2 c.args.hub.now hub2 p at _ _ mid moment tried.0 (omega (arith, later, rose)) (c.now-turn.ensures.moment, c.now-turn.ensures.later)
+    let same = second.1 grown.ready.whole ∙ grown_state hub_setup c.args.hub.now.broken s s1 hub1 p.settled p.doubtful mid cs grown in
+    let each = tried_along _ _ tried.0 s1.shelf_faults s2.shelf_faults (ap (λ (st : Standing). count_tried hub_setup st moment) same) tried.1 in
+    turned s s2 c.args.hub.now hub2 p at _ _ mid moment tried.0 (omega (arith, later, rose)) (tried_within _ tried.0 s.shelf_faults s1.shelf_faults s2.shelf_faults later each) (c.now-turn.ensures.moment, c.now-turn.ensures.later)
     (finished hub_setup c.args.hub.now.broken s s1 s2 hub1 hub2 p.settled p.doubtful mid second.0 cs moment tried.0 grown (second.1 grown.ready.whole) tried.2)

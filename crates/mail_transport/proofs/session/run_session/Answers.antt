@@ -5,12 +5,13 @@ use Rattle.plant_dev.proofs.Offered.{started, joins, weakens}
 use Rattle.hub_core.specs.declared.limits.Limits.{Limits}
 use Rattle.hub_core.specs.Setup.{setup_of}
 use Rattle.categorizer.specs.Meaning.{hub_means}
+use Rattle.queue_store.specs.Opening.{IsLogOf, OpenFault}
 use Rattle.queue_store.specs.Stands.{Stands, MayStand, Settled}
 use Rattle.queue_store.specs.Ready.{IsReady}
 use Rattle.queue_store.proofs.Offered.{may_now}
 use Rattle.mail_transport.specs.HubSetup.{hub_setup}
 use Rattle.mail_transport.specs.Points.{Trace, RunsAt, sure, IsLeftAt, IsLeftWithin, IsLeftBetween}
-use Rattle.mail_transport.proofs.Never.{ran_never, memory≢log, disk≢log}
+use Rattle.mail_transport.proofs.Never.{ran_never, told_as, memory≢log, disk≢log}
 use Rattle.mail_transport.proofs.Running.{ends_within, status_told, left_calm, calm_from, rose_by_from}
 use Rattle.mail_transport.proofs.session.run_session.Goals as goal
 
@@ -98,3 +99,18 @@ returns-in-Ok-clause-log g c start honest settled is =
       | inl none ↦ elim none.why [ inl disk ↦ disk≢log (sym disk.0 ∙ is) | inr memory ↦ memory≢log (sym memory ∙ is) ]
       | inr ran ↦ ran_never start _ _ _ _ _ _ _ _ _ is ran
     ]
+
+pub returns-in-Err-clause-file : goal.returns-in-Err-clause-file
+returns-in-Err-clause-file g c honest =
+    let file = (g.P.Plant.state c.args.plant.now).image.file in
+    inr (record {
+      why = told_as file c.in-Err.fault c.fault_status.result c.fault_status.ensures.value (subst (λ (l : Limits). OpenFault (setup_of hub_means l) file c.in-Err.fault) c.usual.ensures (c.in-Err.ensures.bad honest));
+      clock = λ k. refl;
+      sink = Appends-nothing (g.K.Sink.taken c.args.sink.now);
+      source = Consumes-nothing (g.S.Source.left c.args.source.now);
+    })
+
+pub returns-in-Ok-clause-file : goal.returns-in-Ok-clause-file
+returns-in-Ok-clause-file g c honest =
+    let file = (g.P.Plant.state c.args.plant.now).image.file in
+    inl (c.in-Ok.hub.state, subst (λ (l : Limits). IsLogOf (setup_of hub_means l) file c.in-Ok.hub.state) c.usual.ensures (c.in-Ok.ensures.found honest))

@@ -1,5 +1,5 @@
 use Rattle.std.proofs.Common.{refl, Err}
-use Rattle.mail_plan.specs.declared.intake.IntakeFault.TheVariants as faults
+use Rattle.mail_submission.specs.declared.intake.IntakeFault.TheVariants as faults
 use Rattle.smtp_front.proofs.talk.ask.Goals as goal
 
 pub returns-in-Say-clause-asked : goal.returns-in-Say-clause-asked

@@ -4,4 +4,4 @@ use Rattle.group_expand.proofs.gates.Gates.new.Goals as goal
 
 pub returns-clause-shut : goal.returns-clause-shut
 returns-clause-shut c =
-    shuts-new c.args.directory.now (record { sender = c.args.sender; opened = c.args.opened; known = c.in_ok-known.known }) (search rules)
+    shuts-new c.args.directory.now (record { sender = c.args.sender; opened = c.args.opened; known = c.in_ok-known.known; groups = c.new.result }) (search rules)

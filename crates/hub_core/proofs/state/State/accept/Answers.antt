@@ -1,5 +1,5 @@
 use Rattle.std.proofs.Common.{rules, ◌≡◌, ◌+◌, ◌++◌, ◌∷◌, [], length, ap, arith}
-use Rattle.mail_plan.specs.Submission.{Submitted}
+use Rattle.mail_submission.specs.Submission.{Submitted}
 use Rattle.hub_core.specs.Standing.{live_bytes}
 use Rattle.hub_core.proofs.Room.{bytes-push}
 use Rattle.hub_core.proofs.state.State.accept.Goals as goal

@@ -1,8 +1,8 @@
 use Rattle.std.proofs.Common.{◌≡◌, [], ◌∷◌, ◌++◌, refl, ap, ◌∙◌, sym, subst}
 use Rattle.std.proofs.lemmas.Result.{on_ok_weaker}
 use Rattle.mail_plan.specs.Planning.{Input}
-use Rattle.mail_plan.specs.declared.entry.Entry.{Entry}
-use Rattle.mail_plan.specs.declared.entry.Entry.TheVariants as entries
+use Rattle.log_entry.specs.declared.entry.Entry.{Entry}
+use Rattle.log_entry.specs.declared.entry.Entry.TheVariants as entries
 use Rattle.hub_core.specs.Setup.{setup_of, texts_of}
 use Rattle.queue_store.specs.Ready.{Follows}
 use Rattle.queue_store.proofs.Adding.{adds-along, fails-along, err_weaker}

@@ -1,5 +1,5 @@
 use Rattle.std.proofs.Common.{◌≡◌, refl, ap, ◌∙◌, sym}
-use Rattle.mail_plan.specs.declared.entry.Entry.TheVariants as entries
+use Rattle.log_entry.specs.declared.entry.Entry.TheVariants as entries
 use Rattle.hub_core.specs.declared.command.Reply.TheVariants as replies
 use Rattle.hub_core.specs.Setup.{Texts, setup_of}
 use Rattle.hub_core.specs.Standing.{Standing, is_lawful}

@@ -3,7 +3,7 @@ use Rattle.hub_core.specs.Setup.{setup_of, texts_of}
 use Rattle.queue_store.specs.Ready.{Kept, Leaves, IsReady}
 use Rattle.std.proofs.Common.{◌++◌, sym, subst, List}
 use Rattle.std.specs.Prelude.{OnOk}
-use Rattle.mail_plan.specs.declared.entry.Entry.{Entry}
+use Rattle.log_entry.specs.declared.entry.Entry.{Entry}
 use Rattle.hub_core.specs.Journal.{IsJournaled}
 use Rattle.queue_store.specs.Planning.{entries_commit}
 use Rattle.queue_store.proofs.Journal.{journaled, on_ok}

@@ -10,7 +10,7 @@ use Rattle.queue_store.specs.Faults.{fault_of}
 use Rattle.queue_store.specs.Stands.{MayStand}
 use Rattle.queue_store.proofs.Adding.{handed}
 use Rattle.queue_store.proofs.Settling.{pick, open_moments, opened_stands, opened_ready}
-use Rattle.queue_store.proofs.Opening.{refused_head, refused_later}
+use Rattle.queue_store.proofs.Opening.{found_later, refused_head, refused_later}
 use Rattle.queue_store.proofs.hub.Hub.open_as.Goals as goal
 
 pub returns-in_err-log-clause-any_moment : goal.returns-in_err-log-clause-any_moment
@@ -91,3 +91,13 @@ returns-in_err-state-clause-bad g c honest =
     let begins = subst (λ (v : LogView). Begins s1.image.file [] v.place) (sym c.in_ok-log.ensures.at_start) (c.in_ok-log.ensures.begins honest) in
     refused_later (setup_of g.T.Planner.means c.args.limits) s0.image.file s1.image.file c.in_err-state.field-0.0 _ c.from_residual-in_err-state.ensures.1 (c.in_ok-log.ensures.opened honest)
     (λ file. c.in_err-state.ensures.never [] begun tt (c.in_ok-log.ensures.unread [] honest file)) (c.in_err-state.ensures.bad begun held begins)
+
+pub returns-clause-found : goal.returns-clause-found
+returns-clause-found g c honest =
+    let s0 = g.P.Plant.state c.args.plant.now in
+    let s1 = g.P.Plant.state c.open_log.new.plant in
+    let begun = stays_honest s0 s1 c.open_log.ensures.stays honest in
+    let held = subst (λ (v : LogView). IsHeld s1.image.file v) (sym c.in_ok-log.ensures.at_start) refl in
+    let begins = subst (λ (v : LogView). Begins s1.image.file [] v.place) (sym c.in_ok-log.ensures.at_start) (c.in_ok-log.ensures.begins honest) in
+    found_later (setup_of g.T.Planner.means c.args.limits) s0.image.file s1.image.file _ (c.in_ok-log.ensures.opened honest) (c.in_ok-log.ensures.small honest) (λ file. c.in_ok-log.ensures.stands [] honest file)
+    (c.in_ok-state.ensures.whole begun held begins)

@@ -6,7 +6,7 @@ use Rattle.plant_dev.proofs.Offered.{stays_not, stays_more}
 use Rattle.queue_store.specs.Calls.{entries_try}
 use Rattle.queue_store.proofs.Adding.{adds-none, adds-along, later-along, later-first, later-joined, adds-joined, state-goes}
 use Rattle.queue_store.proofs.Delivering.{try_deliveries, deliveries_both}
-use Rattle.queue_store.proofs.Turning.{Tried-none, Tried-more, Tried-all, Tried-stopped, misses-more}
+use Rattle.queue_store.proofs.Turning.{Tried-none, Tried-more, Tried-all, Tried-each, Tried-stopped, misses-more}
 use Rattle.queue_store.proofs.hub.Hub.try_all.Goals as goal
 
 pub loop-name-init : goal.loop-name-init
@@ -44,7 +44,8 @@ pub returns-clause-adds : goal.returns-clause-adds
 returns-clause-adds g c setup h t all ready =
     let so_far = c.loop-name.invariant.goes setup h t all ready in
     let over = Tried-all _ _ _ so_far.0 so_far.1 _ _ (drop_all c.loop-name.name-index c.args.names.now c.loop-name-test.false) so_far.4 in
-    (so_far.0, adds-along setup _ _ _ h t _ _ over so_far.2, so_far.5)
+    let each = Tried-each _ _ _ so_far.0 so_far.1 _ _ (drop_all c.loop-name.name-index c.args.names.now c.loop-name-test.false) so_far.4 in
+    (so_far.0, adds-along setup _ _ _ h t _ _ over so_far.2, record { each = each; missed = so_far.5 })
 
 pub returns-in-Err-clause-stops : goal.returns-in-Err-clause-stops
 returns-in-Err-clause-stops g c setup h t all ready =

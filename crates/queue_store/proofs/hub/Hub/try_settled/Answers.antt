@@ -2,6 +2,7 @@ use Rattle.std.proofs.Common.{inl, [], ap, arith}
 use Rattle.std.proofs.lemmas.Result.{on_ok_weaker}
 use Rattle.queue_store.proofs.Adding.{err_both}
 use Rattle.queue_store.proofs.Runs.{turns-settled, off_settling, rests_later}
+use Rattle.queue_store.proofs.Turning.{tried_until}
 use Rattle.queue_store.proofs.hub.Hub.try_settled.Goals as goal
 
 pub returns-in-Ok-clause-turns : goal.returns-in-Ok-clause-turns
@@ -14,7 +15,7 @@ returns-in-Ok-clause-turns g c setup h ready =
     on_ok_weaker c.settle_open.result (λ done. (
       tried.0,
       turns-settled setup s0 s1 s2 c.try_waiting.new.self c.settle_open.new.self h [] _ tried.1 done (c.settle_open.ensures.any_moment setup h _ tried.1.ready),
-      (let so_far = tried.2 in omega (arith, so_far, rise)),
+      tried_until _ tried.0 _ _ _ tried.2 rise,
     ))
     (c.settle_open.ensures.settles setup h _ tried.1.ready)
 
@@ -28,7 +29,7 @@ returns-in-Ok-clause-stops g c setup h ready =
     err_both _ _ _ c.settle_open.result (λ e broken disk. (
       tried.0,
       inl (disk, off_settling setup s0 s1 s2 c.try_waiting.new.self c.settle_open.new.self h [] _ tried.1 broken (c.settle_open.ensures.any_moment setup h _ tried.1.ready)),
-      (let so_far = tried.2 in omega (arith, so_far, rise)),
+      (let so_far = tried.2.missed in omega (arith, so_far, rise)),
     ))
     (c.settle_open.ensures.failed setup h _ tried.1.ready) c.settle_open.ensures.disk
 

@@ -6,7 +6,7 @@ use Rattle.hub_core.specs.Standing.{state_after, any_pends}
 use Rattle.queue_store.specs.Calls.{moment_entry, entries_trying, entries_turn}
 use Rattle.queue_store.proofs.Adding.{adds-none, err_both}
 use Rattle.queue_store.proofs.Runs.{turns-settled, off_settling}
-use Rattle.queue_store.proofs.Turning.{idle}
+use Rattle.queue_store.proofs.Turning.{idle, tried-none}
 use Rattle.queue_store.proofs.hub.Hub.turn_open.Goals as goal
 
 pub returns-then-not-pends-clause-turns : goal.returns-then-not-pends-clause-turns
@@ -23,7 +23,7 @@ returns-then-not-pends-clause-turns g c limits h t ready =
     let all = moment_entry s c.args.clock ∷ entries_trying setup (state_after setup s (moment_entry s c.args.clock)) [] in
     let adds = adds-none setup s0 hub h t es (ap (λ b. cond b all []) none) ready in
     let later = c.settle_open.ensures.stays.shelf_faults in
-    on_ok_weaker c.settle_open.result (λ done. ([], turns-settled setup s0 s0 s2 hub c.settle_open.new.self h t es adds done (c.settle_open.ensures.any_moment setup h _ adds.ready), omega (arith, later)))
+    on_ok_weaker c.settle_open.result (λ done. ([], turns-settled setup s0 s0 s2 hub c.settle_open.new.self h t es adds done (c.settle_open.ensures.any_moment setup h _ adds.ready), record { each = tried-none setup s c.args.clock none; missed = omega (arith, later) }))
     (c.settle_open.ensures.settles setup h _ adds.ready)
 
 pub returns-then-not-pends-clause-stops : goal.returns-then-not-pends-clause-stops

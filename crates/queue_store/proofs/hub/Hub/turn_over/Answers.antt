@@ -1,13 +1,13 @@
 use Rattle.std.proofs.Common.{◌++◌, [], ◌∷◌, refl, ap, ◌∙◌, arith}
 use Rattle.std.proofs.lemmas.Result.{on_ok_weaker}
-use Rattle.mail_plan.specs.declared.entry.Entry.TheVariants as entries
+use Rattle.log_entry.specs.declared.entry.Entry.TheVariants as entries
 use Rattle.hub_core.specs.Setup.{setup_of}
 use Rattle.hub_core.specs.Standing.{now_of}
 use Rattle.queue_store.specs.Ready.{Kept}
 use Rattle.queue_store.specs.Calls.{after_entries}
 use Rattle.queue_store.proofs.Adding.{err_weaker}
 use Rattle.queue_store.proofs.Runs.{state-turns, turns-joined, turns-along, turn-stops-joined, turn-stops-along, turn-stops-more}
-use Rattle.queue_store.proofs.Turning.{turn-entries}
+use Rattle.queue_store.proofs.Turning.{turn-entries, tried-behind, tried_along, tried_within}
 use Rattle.queue_store.proofs.hub.Hub.turn_over.Goals as goal
 
 pub returns-in-Ok-clause-turns : goal.returns-in-Ok-clause-turns
@@ -26,7 +26,7 @@ returns-in-Ok-clause-turns g c limits h t ready =
       tried.0,
       turns-along setup s0 s2 c.try_settled.new.self h t _ _ (turn-entries setup s _ c.args.clock moment tried.0 c.requires at (state-turns setup s0 s1 c.args.self.now c.begin_turn.new.self h t begun ready one.ready))
           (turns-joined setup s0 s1 s2 c.begin_turn.new.self c.try_settled.new.self h t begun _ one tried.1),
-      (let so_far = tried.2 in omega (arith, so_far, rise)),
+      tried_along _ _ tried.0 _ _ (tried-behind setup s _ c.args.clock moment c.requires at (state-turns setup s0 s1 c.args.self.now c.begin_turn.new.self h t begun ready one.ready)) (tried_within _ tried.0 _ _ _ rise tried.2),
     ))
     (c.try_settled.ensures.turns setup ((h ++ t) ++ begun) one.ready)
 

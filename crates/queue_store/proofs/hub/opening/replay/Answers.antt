@@ -1,13 +1,14 @@
-use Rattle.std.proofs.Common.{rules, ◌≡◌, [], ◌∷◌, ◌++◌, ◌+◌, length, drop, Option, Some, Ok, Err, sym, ◌∙◌, ap, subst}
+use Rattle.std.proofs.Common.{rules, ◌≡◌, inr, [], ◌∷◌, ◌++◌, ◌+◌, length, drop, Option, Some, Ok, Err, sym, ◌∙◌, ap, subst}
 use Rattle.plant_dev.specs.Disk.{Image}
 use Rattle.plant_dev.proofs.Offered.{stays_honest, stays_more, reads_more}
-use Rattle.mail_plan.specs.declared.entry.Entry.{Entry}
-use Rattle.mail_plan.specs.EntryText.{entry_text}
+use Rattle.log_entry.specs.declared.entry.Entry.{Entry}
+use Rattle.log_entry.specs.EntryText.{entry_text}
 use Rattle.queue_disk.specs.Reading.{IsHeld, IsRead, ReadsOn, NextAnswer}
 use Rattle.hub_core.specs.declared.limits.Limits.{Limits}
 use Rattle.hub_core.specs.Setup.{setup_of}
 use Rattle.hub_core.specs.Standing.{Standing, state_after, is_lawful}
 use Rattle.queue_store.proofs.Opening.{lawful_next, replayed_more, replayed_all, log_fault, memory_fault, walked_more, stopped, stopped_unlawful}
+use Rattle.queue_disk.proofs.Offered.{ends_shut}
 use Rattle.queue_store.proofs.Adding.{standing-limits}
 use Rattle.queue_store.proofs.hub.opening.replay.Goals as goal
 
@@ -115,3 +116,15 @@ returns-in_err-go_on-clause-bad g c honest held begins =
     let here : c.gate.result ≡ log.place = search rules in
     stopped_unlawful (setup_of g.T.Planner.means c.args.limits) s0.image.file log c.loop-state.state entry c.gate.result c.in_err-go_on.field-0.0 _ c.from_residual-in_err-go_on.ensures.1 w there here
     (c.in_err-go_on.ensures.lawful c.args.limits) c.in_err-go_on.ensures.only
+
+pub returns-clause-whole : goal.returns-clause-whole
+returns-clause-whole g c honest held begins =
+    let s0 = g.P.Plant.state c.args.plant.now in
+    let s1 = g.P.Plant.state c.loop-state.plant in
+    let inv = c.loop-state.invariant in
+    let w = inv.walked honest held begins in
+    let log = c.loop-state.log in
+    let same = (inv.reads honest).image in
+    let now = subst (λ (i : Image). IsHeld i.file log) (sym same) w.held in
+    let answer = subst (λ (i : Image). NextAnswer (drop log.place i.file) log.place (Ok c.in_ok-entry.field-0)) same (c.in_ok-entry.ensures.answer (stays_honest s0 s1 inv.stays honest) now) in
+    record { found = w.done; lawful = w.lawful; stands = inr (ends_shut s0.image.file w.done log.place c.in_ok-entry.field-0 w.begins c.in_default.is answer); state = w.state }

@@ -1,5 +1,5 @@
 use Rattle.std.proofs.Common.{◌≡◌, List, ◌-◌, ◌^◌, [], IsTrue}
-use Rattle.mail_plan.specs.declared.entry.Entry.{Entry}
+use Rattle.log_entry.specs.declared.entry.Entry.{Entry}
 use Rattle.plant_dev.specs.Disk.{Stays, Reads}
 use Rattle.queue_disk.specs.Reading.{IsHeld, IsRead, Begins}
 use Rattle.hub_core.specs.Setup.{setup_of}

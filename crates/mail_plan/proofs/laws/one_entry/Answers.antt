@@ -1,6 +1,0 @@
-use Rattle.std.proofs.Common.{ap, ◌++◌, [], List, ℕ}
-use Rattle.mail_plan.proofs.Forms.{one_entry}
-use Rattle.mail_plan.proofs.laws.one_entry.Goals as goal
-
-pub returns : goal.returns
-returns c = λ a b here there same. (one_entry a b [] [] here there (ap (λ (l : List ℕ). l ++ []) same)).0

@@ -1,7 +1,0 @@
-use Rattle.std.proofs.Common.{◌∙◌, ap, arith}
-use Rattle.std.specs.Int.{from_le_bytes, w64}
-use Rattle.mail_plan.proofs.Numbers.{le64_of}
-use Rattle.mail_plan.proofs.places.number_of_8.Goals as goal
-
-pub returns : goal.returns
-returns c = le64_of c.args.bytes.now c.from_le_bytes.result c.requires (λ i. omega (arith, c.type_inv.bytes i)) (c.from_le_bytes.ensures ∙ ap (from_le_bytes w64) c.copy_from_slice.ensures.after)

@@ -1,6 +1,0 @@
-use Rattle.mail_plan.specs.EntryText.{le32}
-use Rattle.mail_plan.proofs.Numbers.{length-le32}
-use Rattle.mail_plan.proofs.places.u32_at.Goals as goal
-
-pub returns-in-None : goal.returns-in-None
-returns-in-None c = λ n end small stands. c.in-None.ensures.none (le32 n) end (length-le32 n) stands

@@ -1,5 +1,0 @@
-use Rattle.mail_plan.proofs.Forms.{one_key}
-use Rattle.mail_plan.proofs.read.get_keys.Goals as goal
-
-pub list_at-requires : goal.list_at-requires
-list_at-requires c = one_key
