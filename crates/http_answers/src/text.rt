@@ -47,8 +47,7 @@ pub fn key_values(alloc: Global, keys: &[Key]) -> Result<Vec<Value>, NoMemory>
     Ok(values)
 }
 
-/// The name of an item.
-/// A string for each name.
+/// A string for each name of an item.
 pub fn name_values(alloc: Global, names: &[ItemName]) -> Result<Vec<Value>, NoMemory>
     ensures { IfOk result (λ values. map view values.items ≡ map item_data names.now) }
 {
