@@ -1,16 +1,19 @@
 -- A head that is taken piece by piece.
-use Rattle.std.proofs.Common.{◌≡◌, ℕ, ◌+◌, ◌≤◌, List, [], ◌++◌, length, take, Option, Result, Ok, Err, IfOk, IfErr, sym, ap, ◌∙◌, subst, arith, append_assoc}
+use Rattle.std.proofs.Common.{◌≡◌, ℕ, ◌+◌, ◌-◌, ◌≤◌, List, [], ◌++◌, length, take, drop, slice_range, Option, Result, Ok, Err, IfOk, IfErr, sym, ap, ◌∙◌, subst, arith, append_assoc}
 use Rattle.std.proofs.lemmas.List.{append-nil, length-take}
 use Rattle.std.specs.Io.KnownBytes.{Consumes, Keeps, IsAtEnd}
 use Rattle.port_io.proofs.Offered.{Consumes-twice, Consumes-kept}
 use Rattle.http_head.specs.declared.progress.Progress.{Progress}
-use Rattle.http_head.specs.Heads.{IsOpenHead}
+use Rattle.http_head.specs.declared.route.RoutedHead.{RoutedHead}
+use Rattle.http_head.specs.Heads.{IsOpenHead, IsPassedHead}
 use Rattle.http_head.specs.Progress.{IsProgress}
 use Rattle.admin_http.specs.declared.pieces.Dry.{Dry}
 use Rattle.admin_http.specs.declared.pieces.Dry.TheVariants as dries
 use Rattle.admin_http.specs.declared.head.TakenHead.{TakenHead}
+use Rattle.admin_http.specs.declared.head.TakenHead.TheVariants as takens
 use Rattle.admin_http.specs.Pieces.{Got}
 use Rattle.admin_http.specs.Takes.{IsTakenHead, IsFront, TakesHead}
+use Rattle.admin_http.proofs.Piecing.{behind-is}
 
 pub looked-here : (progress : Progress) (text : List ℕ) → ((more : List ℕ) → IsProgress progress (text ++ more)) → IsProgress progress text
 looked-here progress text looked = subst (IsProgress progress) (append-nil text) (looked [])
@@ -55,3 +58,20 @@ last-fault text buffer left (Err e) ok err front = subst (λ (d : Dry). TakesHea
 pub never-fault : (text : List ℕ) (r : Result TakenHead Dry) → IfErr r (λ e. (e ≡ dries.End) × IsOpenHead text) → r ≡ Err dries.Fault → ⊥
 never-fault text (Ok head) h e = cc
 never-fault text (Err d) h e = (let end = h.0 in cc)
+
+-- ---- a head that was taken
+
+pub whole-here : (text buffer : List ℕ) (head : TakenHead) (routed : RoutedHead) (target_start target_end body_start count : ℕ)
+    → head ≡ takens.Whole routed target_start target_end body_start count → IsTakenHead text head → IsFront text buffer
+    → IsPassedHead text routed (slice_range (take count buffer) target_start target_end) (take (length (take count buffer) - body_start) (drop body_start (take count buffer)))
+whole-here text buffer head routed target_start target_end body_start count is taken front =
+    let whole = subst (λ (h : TakenHead). IsTakenHead text h) is taken in
+    let here : text ≡ take count buffer = front.is ∙ ap (λ (n : ℕ). take n buffer) (sym whole.0) in
+    let passed = subst (λ (t : List ℕ). IsPassedHead text routed (slice_range t target_start target_end) (drop body_start t)) here whole.1.0 in
+    subst (λ (r : List ℕ). IsPassedHead text routed (slice_range (take count buffer) target_start target_end) r) (sym (behind-is body_start (take count buffer))) passed
+
+pub end-here : (text buffer : List ℕ) (left : Option (List ℕ)) (dry : Dry) → dry ≡ dries.End → TakesHead text buffer left (Err dry) → IsOpenHead text × IsAtEnd left
+end-here text buffer left dry is takes = subst (λ (d : Dry). TakesHead text buffer left (Err d)) is takes
+
+pub fault-here : (text buffer : List ℕ) (left : Option (List ℕ)) (dry : Dry) → dry ≡ dries.Fault → TakesHead text buffer left (Err dry) → IsOpenHead text
+fault-here text buffer left dry is takes = subst (λ (d : Dry). TakesHead text buffer left (Err d)) is takes
