@@ -1,5 +1,5 @@
 -- How an exchange ends.
-use Rattle.std.proofs.Common.{◌≡◌, ℕ, Bool, false, List, [], Option, Result, Ok, Err, IfOk, refl, sym, ap, ◌∙◌, subst, inl, inr, ◌⊎◌}
+use Rattle.std.proofs.Common.{◌≡◌, ℕ, Bool, false, List, [], Option, Result, Ok, IfOk, refl, sym, ap, subst, inl, inr}
 use Rattle.mail_names.specs.declared.bytes.NoMemory.{NoMemory}
 use Rattle.hub_calls.specs.declared.office.OfficeStep.{OfficeStep}
 use Rattle.http_answers.specs.declared.response.Response.{Response}

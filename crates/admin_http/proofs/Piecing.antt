@@ -1,5 +1,5 @@
 -- A buffer that is filled piece by piece.
-use Rattle.std.proofs.Common.{◌≡◌, ℕ, suc, zero-add, ◌+◌, ◌-◌, ◌≤◌, ◌<◌, List, [], ◌∷◌, ◌++◌, length, take, drop, Option, Err, refl, sym, ap, ◌∙◌, subst, arith, rules, append_assoc, length-append}
+use Rattle.std.proofs.Common.{◌≡◌, ℕ, suc, zero-add, ◌+◌, ◌-◌, ◌≤◌, ◌<◌, List, [], ◌∷◌, ◌++◌, length, take, drop, Option, Err, refl, sym, ap, ◌∙◌, subst, arith, append_assoc, length-append}
 use Rattle.std.proofs.lemmas.List.{append-nil, length-take, length-drop, take-append-le, take_all}
 use Rattle.std.specs.Io.KnownBytes.{Consumes, Keeps, IsAtEnd}
 use Rattle.port_io.proofs.Offered.{Consumes-twice, Consumes-nothing, Consumes-end, Consumes-kept}

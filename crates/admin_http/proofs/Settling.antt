@@ -1,5 +1,5 @@
 -- A text asks for one thing.
-use Rattle.std.proofs.Common.{◌≡◌, ℕ, ◌+◌, ◌-◌, ◌≤◌, ◌<◌, List, [], ◌∷◌, ◌++◌, length, take, drop, Option, Some, None, Result, Ok, Err, refl, sym, ap, ◌∙◌, subst, arith, rules, inl, inr, ◌⊎◌, length-append, codes}
+use Rattle.std.proofs.Common.{◌≡◌, ℕ, List, ◌++◌, take, Option, Some, Err, refl, sym, ap, ◌∙◌, subst, arith, inl, inr, length-append, codes}
 use Rattle.std.proofs.lemmas.List.{take-append-le}
 use Rattle.httparse.specs.Grammar.{RequestHead}
 use Rattle.httparse.proofs.GrammarLemmas.{request_unique, ReadsRequest-append}
@@ -16,10 +16,9 @@ use Rattle.http_head.specs.declared.deed.Deed.{Deed}
 use Rattle.http_head.specs.declared.deed.Deed.TheVariants as deeds
 use Rattle.http_head.specs.Checks.{parts_of, head_checks}
 use Rattle.http_head.specs.Deeds.{verdict_word, IsMeant}
-use Rattle.http_head.specs.Heads.{IsBadHead, IsRefusedHead, IsPassedHead}
+use Rattle.http_head.specs.Heads.{IsBadHead, IsRefusedHead}
 use Rattle.http_answers.specs.declared.refusal.Refusal.{Refusal}
-use Rattle.http_answers.specs.declared.refusal.Refusal.TheVariants as refusals
-use Rattle.admin_http.specs.Requests.{Refuses, Asks, IsMeaningless, refusal_of}
+use Rattle.admin_http.specs.Requests.{Refuses, Asks, refusal_of}
 use Rattle.admin_http.proofs.Taking.{passed-more, passed-once, refused-not, meant-not}
 
 refused-more : (text more : List ℕ) (fault : HeadFault) → IsRefusedHead text fault → IsRefusedHead (text ++ more) fault

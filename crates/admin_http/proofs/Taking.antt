@@ -1,19 +1,18 @@
 -- What a text asks for, as more of it comes.
-use Rattle.std.proofs.Common.{◌≡◌, ◌≢◌, ℕ, ◌+◌, ◌-◌, ◌≤◌, ◌<◌, List, [], ◌∷◌, ◌++◌, length, take, drop, Option, Some, None, Result, Ok, Err, refl, sym, ap, ◌∙◌, subst, arith, rules, inl, inr, ◌⊎◌, length-append, append_assoc, false, true}
+use Rattle.std.proofs.Common.{◌≡◌, ℕ, ◌≤◌, ◌<◌, List, [], ◌++◌, length, take, Option, Some, None, Result, Ok, Err, refl, sym, ap, ◌∙◌, subst, arith, inl, inr, length-append}
 use Rattle.std.proofs.lemmas.List.{append-nil, take_all}
 use Rattle.std.proofs.lemmas.Bool.{false≢true}
-use Rattle.httparse.specs.Grammar.{RequestHead, ReadsRequest, print_request}
+use Rattle.httparse.specs.Grammar.{RequestHead, print_request}
 use Rattle.httparse.proofs.GrammarLemmas.{request_unique, ReadsRequest-append, print_request-append}
 use Rattle.http_head.specs.declared.route.HeadFault.{HeadFault}
 use Rattle.http_head.specs.declared.route.RoutedHead.{RoutedHead}
 use Rattle.http_head.specs.declared.deed.Deed.{Deed}
 use Rattle.http_head.specs.Checks.{parts_of, head_checks}
 use Rattle.http_head.specs.Deeds.{IsMeant}
-use Rattle.http_head.specs.Heads.{FitsLimits, HasHead, HasNoHead, IsBadHead, IsOpenHead, IsRefusedHead, IsPassedHead}
-use Rattle.http_answers.specs.declared.refusal.Refusal.{Refusal}
+use Rattle.http_head.specs.Heads.{IsOpenHead, IsRefusedHead, IsPassedHead}
 use Rattle.http_answers.specs.declared.refusal.Refusal.TheVariants as refusals
 use Rattle.admin_http.specs.Pieces.{Full, Short}
-use Rattle.admin_http.specs.Requests.{Refuses, Asks, IsMeaningless, IsUnfinished, IsNotWhole, HasCome, Means}
+use Rattle.admin_http.specs.Requests.{Refuses, Asks, IsUnfinished, IsNotWhole, HasCome, Means}
 
 -- a head that hasn't come
 pub unfinished-open : (text : List ℕ) → IsOpenHead text → IsUnfinished text

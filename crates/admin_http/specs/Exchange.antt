@@ -1,5 +1,5 @@
 -- One exchange.
-use Rattle.std.specs.Prelude.{◌≡◌, ℕ, ◌⊎◌, Bool, true, false, List, [], ◌∷◌, Option, Some, None, Result, Ok, Err, IfErr}
+use Rattle.std.specs.Prelude.{◌≡◌, ℕ, ◌⊎◌, Bool, true, false, List, [], ◌∷◌, Option, Some, None, Result, Ok, IfErr}
 use Rattle.std.specs.Io.KnownBytes.{Appends, Consumes, IsAtEnd}
 use Rattle.port_io.specs.Told.{AppendsPrefix, Gave}
 use Rattle.mail_names.specs.declared.name.ItemName.{ItemName}
@@ -22,7 +22,7 @@ use Rattle.http_head.specs.declared.deed.Deed.TheVariants as deeds
 use Rattle.http_answers.specs.declared.response.Response.{Response}
 use Rattle.http_answers.specs.declared.refusal.Refusal.{Refusal}
 use Rattle.http_answers.specs.declared.refusal.Refusal.TheVariants as refusals
-use Rattle.http_answers.specs.Responses.{response_text, refusal_response, answered, fault_response, queue_response, approvals_response, ended_response, items_response, item_response, epoch_response, turn_response, decide_response, already_response, stop_response}
+use Rattle.http_answers.specs.Responses.{response_text, refusal_response, answered, queue_response, approvals_response, ended_response, items_response, item_response, epoch_response, turn_response, decide_response, already_response, stop_response}
 use Rattle.admin_http.specs.declared.exchange_end.ExchangeEnd.{ExchangeEnd}
 use Rattle.admin_http.specs.declared.exchange_end.ExchangeEnd.TheVariants as ends
 use Rattle.admin_http.specs.Requests.{Refuses, Asks, IsUnfinished, IsNotWhole, HasCome}

@@ -1,5 +1,5 @@
 -- What answering does.
-use Rattle.std.specs.Prelude.{◌≡◌, ℕ, ◌⊎◌, Bool, false, List, Option, Result, Ok, Err, IfOk}
+use Rattle.std.specs.Prelude.{◌≡◌, ℕ, ◌⊎◌, Bool, false, List, Option, Result, Ok, IfOk}
 use Rattle.std.specs.Io.KnownBytes.{Appends}
 use Rattle.port_io.specs.Told.{AppendsPrefix, Gave}
 use Rattle.mail_names.specs.declared.bytes.NoMemory.{NoMemory}

@@ -1,5 +1,5 @@
 -- What a text asks for, whatever pieces it comes in.
-use Rattle.std.specs.Prelude.{◌≡◌, ℕ, ◌≤◌, ◌⊎◌, List, length, take, Option, Some, None}
+use Rattle.std.specs.Prelude.{◌≡◌, ℕ, ◌≤◌, ◌⊎◌, List, length, take, Some, None}
 use Rattle.http_head.specs.declared.route.HeadFault.{HeadFault}
 use Rattle.http_head.specs.declared.route.HeadFault.TheVariants as faults
 use Rattle.http_head.specs.declared.route.RoutedHead.{RoutedHead}

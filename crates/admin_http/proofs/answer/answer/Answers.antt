@@ -1,4 +1,4 @@
-use Rattle.std.proofs.Common.{ℕ, [], ◌∷◌, Option, Some, None, refl}
+use Rattle.std.proofs.Common.{[], ◌∷◌, Some, None, refl}
 use Rattle.hub_calls.specs.declared.office.OfficeStep.TheVariants as steps
 use Rattle.http_answers.specs.Responses.{answered, queue_response, approvals_response, ended_response, items_response, item_response, epoch_response, turn_response, stop_response}
 use Rattle.http_head.specs.declared.deed.Deed.TheVariants as deeds

@@ -1,4 +1,4 @@
-use Rattle.std.proofs.Common.{ℕ, List, [], ◌++◌, arith, ◌∙◌, ap, sym, subst}
+use Rattle.std.proofs.Common.{ℕ, List, [], ◌++◌, arith, ◌∙◌, sym, subst}
 use Rattle.port_io.proofs.Offered.{Consumes-nothing}
 use Rattle.admin_http.specs.Requests.{Asks}
 use Rattle.admin_http.proofs.Taking.{asks-here, come-here, short-here, asks-filled, unfinished-short}

@@ -11,7 +11,7 @@ pub returns-in-Ok-Whole-clause-took : goal.returns-in-Ok-Whole-clause-took
 returns-in-Ok-Whole-clause-took g c =
     let t = c.in-Ok-Whole.ensures.took in
     let whole = whole-here t.0 c.take_head.new.buffer c.in-Ok-Whole.field-0 c.in-Ok-Whole.routed c.in-Ok-Whole.target_start c.in-Ok-Whole.target_end c.in-Ok-Whole.body_start c.in-Ok-Whole.count
-        c.in-Ok-Whole.field-0-is t.2.0 t.2.1 in
+    c.in-Ok-Whole.field-0-is t.2.0 t.2.1 in
     let rest = c.take_rest.ensures.took t.0 whole in
     (t.0 ++ rest.0, Consumes-twice _ _ _ _ _ t.1 rest.1, rest.2)
 

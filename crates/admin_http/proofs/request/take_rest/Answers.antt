@@ -1,4 +1,4 @@
-use Rattle.std.proofs.Common.{[], arith, refl, subst, Option, Some, None}
+use Rattle.std.proofs.Common.{[], arith, refl, subst, Option}
 use Rattle.port_io.proofs.Offered.{Consumes-nothing}
 use Rattle.http_head.specs.declared.deed.Deed.{Deed}
 use Rattle.http_head.specs.Deeds.{IsMeant}

@@ -1,4 +1,4 @@
-use Rattle.std.proofs.Common.{[], false, refl, inl, inr}
+use Rattle.std.proofs.Common.{[], false, refl, inl}
 use Rattle.port_io.proofs.Offered.{Appends-nothing}
 use Rattle.http_answers.specs.Responses.{refusal_response}
 use Rattle.admin_http.specs.Replies.{memory}
