@@ -1,7 +1,7 @@
 // What the script's office shows.
 use hub_calls::{ApprovalRow, EndRow, QueueView, TaskName, WaitingRow};
 use journal_report::Why;
-use mail_names::{ApprovalName, Bytes, ItemName, Items, Key, Mark, NoMemory};
+use mail_names::{ApprovalName, Bytes, ItemName, Items, Key, Mark, NameFault, NoMemory};
 use mail_plan::ItemKind;
 use std::alloc::Global;
 
@@ -9,6 +9,7 @@ use std::alloc::Global;
 pub fn key(alloc: Global, text: &[u8]) -> Result<Key, NoMemory> {
     match Key::read(alloc, text) {
         Ok(key) => Ok(key),
+        Err(NameFault::NoMemory) => Err(NoMemory),
         Err(_) => Err(NoMemory),
     }
 }
