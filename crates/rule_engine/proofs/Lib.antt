@@ -5,5 +5,6 @@ pub mod Noting
 pub mod Parting
 pub mod Placing
 pub mod Rendering
+pub mod Splitting
 pub mod Stepping
 pub mod Offered

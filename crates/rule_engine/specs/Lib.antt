@@ -7,3 +7,4 @@ pub mod Index
 pub mod Parted
 pub mod Rendered
 pub mod Run
+pub mod Sets

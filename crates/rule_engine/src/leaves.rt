@@ -2,7 +2,8 @@
 ghost use Rattle.std.specs.Prelude.{◌≡◌, ◌≤◌, ◌++◌, ℕ, List, length, fold, map, IfOk, OnOk, option_copied};
 ghost use Rattle.rule_engine.specs.Run.{run_of, outcomes, with_text, end_texts, copy_text, placed_end, placed_copies};
 
-use crate::recipient::{End, MadeCopy, judge};
+use crate::recipient::{End, MadeCopy};
+use crate::sets::outcomes;
 use crate::texts::Texts;
 use group_expand::{Leaf, MOST_LEAVES};
 use mail_message::Message;
@@ -58,7 +59,7 @@ fn add_copies(
         into.new ≡ into.old ++ placed_copies (fold with_text texts.new later) leaf copies.now) }
 {
     for copied in copies {
-        let text = texts.place(alloc, &copied.text)?;
+        let text = texts.place(alloc, copied.text.bytes())?;
         let target = copied.target.copy(alloc)?;
         into.push(SideCopy {
             leaf,
@@ -77,11 +78,11 @@ fn placed_end(alloc: Global, texts: &mut Texts, end: &End) -> Result<Fate, NoMem
 {
     match end {
         End::Keep { text } => Ok(Fate::Keep {
-            text: texts.place(alloc, text)?,
+            text: texts.place(alloc, text.bytes())?,
         }),
         End::Redirect { target, text, rule } => {
             let target = target.copy(alloc)?;
-            let text = texts.place(alloc, text)?;
+            let text = texts.place(alloc, text.bytes())?;
             Ok(Fate::Redirect {
                 target,
                 text,
@@ -117,10 +118,10 @@ pub fn run_rules(
     let mut texts = Texts::new(alloc);
     let mut fates = Items::new(alloc);
     let mut copies = Items::new(alloc);
-    for (i, leaf) in leaves.iter().enumerate() {
-        let outcome = judge(
-            alloc, rules, directory, sender, moment, opened, message, &leaf.key,
-        )?;
+    let all = outcomes(
+        alloc, rules, directory, sender, moment, opened, message, leaves,
+    )?;
+    for (i, outcome) in all.as_slice().iter().enumerate() {
         let made = outcome.copies.as_slice();
         add_copies(alloc, &mut texts, i as u32, made, &mut copies)?;
         let fate = placed_end(alloc, &mut texts, &outcome.end)?;

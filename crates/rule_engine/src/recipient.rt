@@ -6,9 +6,10 @@ ghost use Rattle.mail_names.specs.declared.gate.Gate.{Gate};
 ghost use Rattle.rule_terms.specs.Forms.{is_action, is_rule};
 ghost use Rattle.rule_engine.specs.Gates.{opens, is_opened};
 ghost use Rattle.rule_engine.specs.Edits.{is_edit, edit_if, action_edits, rule_edits, edits};
-ghost use Rattle.rule_engine.specs.Fate.{stage, side, is_one_of, now, with_copy, after_effect, disclaim, act, after_actions, after_rule, fate};
+ghost use Rattle.rule_engine.specs.Fate.{stage, and_then, after_stop, side, is_one_of, now, with_copy, after_effect, disclaim, act, after_actions, after_rule, fate};
 
 use crate::edit::{EditAt, is_edit};
+use crate::shared_text::SharedText;
 use mail_message::{Message, Place};
 use mail_names::{Bytes, Gate, Items, Key, NoMemory};
 use org_directory::Directory;
@@ -20,7 +21,7 @@ use std::alloc::Global;
 #[derive(Drop)]
 pub struct MadeCopy {
     pub target: Key,
-    pub text: Bytes,
+    pub text: SharedText,
     pub rule: u32,
 }
 
@@ -28,13 +29,25 @@ pub struct MadeCopy {
 #[derive(Drop)]
 pub enum End {
     /// It gets the text.
-    Keep { text: Bytes },
+    Keep {
+        text: SharedText,
+    },
     /// The target gets the text.
-    Redirect { target: Key, text: Bytes, rule: u32 },
+    Redirect {
+        target: Key,
+        text: SharedText,
+        rule: u32,
+    },
     /// It is rejected with the code `5.7.CODE` and these words.
-    Reject { rule: u32, code: u32, words: Bytes },
+    Reject {
+        rule: u32,
+        code: u32,
+        words: Bytes,
+    },
     /// It waits for the gate of this rule.
-    Held { rule: u32 },
+    Held {
+        rule: u32,
+    },
 }
 
 /// What the fold carries from rule to rule.
@@ -94,10 +107,17 @@ pub fn side(before: bool) -> Place
     if before { Place::Before } else { Place::After }
 }
 
+// The text at this point.
+pub fn text_now(alloc: Global, progress: &Progress) -> Result<SharedText, NoMemory>
+    ensures { IfOk result (λ text. text ≡ now progress.now) }
+{
+    SharedText::new(alloc, progress.message.bytes(alloc)?)
+}
+
 fn add_copy(alloc: Global, rule: u32, target: &Key, progress: &mut Progress) -> Result<(), NoMemory>
     ensures { OnOk result (progress.new ≡ with_copy rule target.now progress.old) }
 {
-    let text = progress.message.bytes(alloc)?;
+    let text = text_now(alloc, progress)?;
     let target = target.copy(alloc)?;
     progress.copies.push(MadeCopy { target, text, rule })?;
     Ok(())
@@ -106,7 +126,7 @@ fn add_copy(alloc: Global, rule: u32, target: &Key, progress: &mut Progress) -> 
 fn redirected(alloc: Global, rule: u32, target: &Key, progress: &Progress) -> Result<End, NoMemory>
     ensures { IfOk result (λ end. end ≡ End.Redirect target.now (now progress.now) rule) }
 {
-    let text = progress.message.bytes(alloc)?;
+    let text = text_now(alloc, progress)?;
     let target = target.copy(alloc)?;
     Ok(End::Redirect { target, text, rule })
 }
@@ -249,6 +269,33 @@ fn do_actions(
     Ok(None)
 }
 
+// Does a rule that applies.
+pub fn do_applied(
+    alloc: Global,
+    sender: Option<&Key>,
+    opened: &[Gate],
+    place: u32,
+    rule: &Rule,
+    progress: &mut Progress,
+    edits: &mut Items<EditAt>,
+) -> Result<Option<End>, NoMemory>
+    requires { is_rule rule.now ≡ true }
+    ensures stage { IfOk result (λ end. stage progress.new end ≡
+        and_then (after_actions (option_copied sender.entry) opened.now place rule.now.actions progress.old) (after_stop rule.now.stop)) }
+    ensures edits { OnOk result (edits.new ≡
+        edits.old ++ action_edits (option_copied sender.entry) opened.now place 0 rule.now.actions progress.old) }
+{
+    let actions = rule.actions.as_slice();
+    if let Some(end) = do_actions(alloc, sender, opened, place, actions, progress, edits)? {
+        return Ok(Some(end));
+    }
+    if rule.stop {
+        let text = text_now(alloc, progress)?;
+        return Ok(Some(End::Keep { text }));
+    }
+    Ok(None)
+}
+
 // Does one rule, where it applies.
 fn do_rule(
     alloc: Global,
@@ -279,15 +326,7 @@ fn do_rule(
     )? {
         return Ok(None);
     }
-    let actions = rule.actions.as_slice();
-    if let Some(end) = do_actions(alloc, sender, opened, place, actions, progress, edits)? {
-        return Ok(Some(end));
-    }
-    if rule.stop {
-        let text = progress.message.bytes(alloc)?;
-        return Ok(Some(End::Keep { text }));
-    }
-    Ok(None)
+    do_applied(alloc, sender, opened, place, rule, progress, edits)
 }
 
 /// What becomes of one recipient, and which edits are done for it. A rule applies, or doesn't, by the message as the earlier
@@ -332,7 +371,7 @@ pub fn trace(
             return Ok(Traced { outcome, edits });
         }
     }
-    let text = progress.message.bytes(alloc)?;
+    let text = text_now(alloc, &progress)?;
     let Progress { message: _, copies } = progress;
     let outcome = RuleOutcome {
         copies,

@@ -28,7 +28,8 @@ loop-copied-preserved c =
       copies = λ later.
           let all : List (List ℕ) = fold with_text (fold with_text c.args.texts.now (map copy_text c.args.copies.now)) later in
           let at : c.in_ok-text.text ≡ place_of (fold with_text c.place.new.self (map copy_text rest ++ later)) c.copied-item.result.text =
-          c.in_ok-text.ensures.place (map copy_text rest ++ later) in
+          c.in_ok-text.ensures.place (map copy_text rest ++ later)
+          ∙ ap (λ (text : List ℕ). place_of (fold with_text c.place.new.self (map copy_text rest ++ later)) text) c.bytes.ensures in
           let split : fold with_text c.place.new.self (map copy_text rest ++ later) ≡ all =
           fold-append with_text c.place.new.self (map copy_text rest) later ∙ ap (λ texts. fold with_text texts later) texts in
           let here : c.in_ok-text.text ≡ place_of all c.copied-item.result.text = at ∙ ap (λ texts. place_of texts c.copied-item.result.text) split in
