@@ -21,7 +21,7 @@ pub fn copied_send(alloc: Global, send: &Send) -> Result<Send, NoMemory>
     Ok(Send {
         target: send.target.copy(alloc)?,
         why: send.why.copy(alloc)?,
-        text: Bytes::of(alloc, send.text.as_slice())?,
+        text: send.text.share()?,
     })
 }
 

@@ -13,6 +13,7 @@ use mail_names::{
 use mail_notices::{Notice, notice};
 use mail_plan::{Hold, ItemKind};
 use moderation::APPROVAL_TIME;
+use rule_engine::SharedText;
 use std::alloc::Global;
 
 /// The name of an item of a release.
@@ -34,13 +35,14 @@ fn text_at(
     place: usize,
     to: &[Key],
     what: &Notice,
-) -> Result<Bytes, NoMemory>
+) -> Result<SharedText, NoMemory>
     requires { letter.now.made ≤ LAST_MOMENT }
     ensures { IfOk result (λ text. text ≡ text_at letter.now place to.now what.now) }
 {
     let place = short_count(place)?;
     let name = name_at(letter.about.number, letter.release, place);
-    notice(alloc, &name, to, letter.made, &letter.about, what)
+    let text = notice(alloc, &name, to, letter.made, &letter.about, what)?;
+    SharedText::new(alloc, text)
 }
 
 fn versions(alloc: Global, sends: &[Send]) -> Result<Items<Draft>, NoMemory>
@@ -52,7 +54,7 @@ fn versions(alloc: Global, sends: &[Send]) -> Result<Items<Draft>, NoMemory>
             folder: send.target.copy(alloc)?,
             kind: ItemKind::Version,
             why: send.why.copy(alloc)?,
-            text: Bytes::of(alloc, send.text.as_slice())?,
+            text: send.text.share()?,
         })?;
     }
     Ok(drafts)
@@ -76,7 +78,7 @@ fn asked(alloc: Global, letter: &Letter, gate: u32, hold: &Hold) -> Result<Notic
 // Adds the request for each moderator.
 fn add_asked(
     alloc: Global,
-    text: &Bytes,
+    text: &SharedText,
     moderators: &[Key],
     drafts: &mut Items<Draft>,
 ) -> Result<(), NoMemory>
@@ -87,7 +89,7 @@ fn add_asked(
             folder: moderator.copy(alloc)?,
             kind: ItemKind::Request,
             why: Why::Direct,
-            text: Bytes::of(alloc, text.as_slice())?,
+            text: text.share()?,
         })?;
     }
     Ok(())

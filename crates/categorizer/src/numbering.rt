@@ -22,7 +22,7 @@ fn add_item(
     ensures items { OnOk result ((later : List (List ℕ)) →
         items.new ≡ items.old ++ item_of name (fold with_text texts.new later) draft.now ∷ []) }
 {
-    let text = texts.place(alloc, &draft.text)?;
+    let text = texts.place(alloc, draft.text.bytes())?;
     let folder = draft.folder.copy(alloc)?;
     let why = draft.why.copy(alloc)?;
     items.push(Item {

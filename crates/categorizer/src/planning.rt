@@ -1,7 +1,8 @@
 // The plan of a submission, where some gates are opened.
-ghost use Rattle.std.specs.Prelude.{◌≡◌, ◌≤◌, ◌++◌, true, length, IfOk, OnOk, option_copied};
+ghost use Rattle.std.specs.Prelude.{◌≡◌, ◌≤◌, ◌++◌, ◌∷◌, [], List, true, length, IfOk, OnOk, option_copied};
 ghost use Rattle.std.specs.List.{list_all};
 ghost use Rattle.rule_terms.specs.Forms.{is_rule};
+ghost use Rattle.rule_engine.specs.declared.recipient.RuleOutcome.{RuleOutcome};
 ghost use Rattle.categorizer.specs.Plan.{is_held_by, holds_leaf, held_rules, closed_gates, rejected_at, rejections, judged, plan_of};
 ghost use Rattle.categorizer.specs.Releasing.{case_of};
 ghost use Rattle.categorizer.specs.Plan.{judged_in};
@@ -15,9 +16,27 @@ use mail_message::Message;
 use mail_names::{Bytes, Gate, Items, Key, NoMemory};
 use mail_plan::ReleaseInput;
 use org_directory::Directory;
-use rule_engine::{End, judge};
+use rule_engine::{End, RuleOutcome, outcomes};
 use rule_terms::Rule;
 use std::alloc::Global;
+use std::collections::VecDeque;
+
+// Adds a leaf with the next outcome, where there is one.
+fn add_judged(
+    alloc: Global,
+    leaf: &Leaf,
+    left: &mut VecDeque<RuleOutcome>,
+    all: &mut Items<Judged>,
+) -> Result<(), NoMemory>
+    ensures { OnOk result ((outcome : RuleOutcome) (others : List RuleOutcome) → left.old.items ≡ outcome ∷ others →
+        (left.new.items ≡ others) × (all.new ≡ all.old ++ record { leaf = leaf.now; outcome = outcome } ∷ [])) }
+{
+    if let Some(outcome) = left.pop_front() {
+        let leaf = copied_leaf(alloc, leaf)?;
+        all.push(Judged { leaf, outcome })?;
+    }
+    Ok(())
+}
 
 // What the rules make of each leaf.
 fn judged(
@@ -35,15 +54,13 @@ fn judged(
     ensures { IfOk result (λ all. all ≡
         judged rules.now (record { directory = directory.now; sender = option_copied sender.entry; moment = moment }) message.now opened.now leaves.now) }
 {
+    let found = outcomes(
+        alloc, rules, directory, sender, moment, opened, message, leaves,
+    )?;
+    let mut left = VecDeque::from_vec(found.into_vec());
     let mut all = Items::new(alloc);
     for leaf in leaves {
-        let outcome = judge(
-            alloc, rules, directory, sender, moment, opened, message, &leaf.key,
-        )?;
-        all.push(Judged {
-            leaf: copied_leaf(alloc, leaf)?,
-            outcome,
-        })?;
+        add_judged(alloc, leaf, &mut left, &mut all)?;
     }
     Ok(all)
 }

@@ -5,7 +5,7 @@ ghost use Rattle.categorizer.specs.Plan.{is_target, with_send, route_why, kept_a
 use crate::parts::{Judged, Send};
 use group_expand::Leaf;
 use journal_report::Why;
-use mail_names::{Bytes, Items, Key, NoMemory, copied_keys};
+use mail_names::{Items, Key, NoMemory, copied_keys};
 use rule_engine::{End, MadeCopy, RuleOutcome};
 use std::alloc::Global;
 
@@ -44,7 +44,7 @@ fn add_kept(alloc: Global, sends: &mut Items<Send>, leaf: &Leaf, end: &End) -> R
         let send = Send {
             target: leaf.key.copy(alloc)?,
             why: route_why(alloc, leaf.route.as_slice())?,
-            text: Bytes::of(alloc, text.as_slice())?,
+            text: text.share()?,
         };
         add_send(sends, send)?;
     }
@@ -58,7 +58,7 @@ fn add_copies(alloc: Global, sends: &mut Items<Send>, copies: &[MadeCopy]) -> Re
         let send = Send {
             target: copied.target.copy(alloc)?,
             why: Why::Copied { rule: copied.rule },
-            text: Bytes::of(alloc, copied.text.as_slice())?,
+            text: copied.text.share()?,
         };
         add_send(sends, send)?;
     }
@@ -72,7 +72,7 @@ fn add_redirect(alloc: Global, sends: &mut Items<Send>, end: &End) -> Result<(),
         let send = Send {
             target: target.copy(alloc)?,
             why: Why::Redirected { rule: *rule },
-            text: Bytes::of(alloc, text.as_slice())?,
+            text: text.share()?,
         };
         add_send(sends, send)?;
     }
