@@ -113,10 +113,7 @@ fn report_at(
     let head = head_at(alloc, letter, sender, short_count(place)?, &taken.mailbox)?;
     let lines = lines_at(alloc, sends, taken.targets.as_slice())?;
     let original = letter.about.original.as_slice();
-    let text = SharedText::new(
-        alloc,
-        report(alloc, &head, lines.as_slice(), original)?,
-    )?;
+    let text = SharedText::new(alloc, report(alloc, &head, lines.as_slice(), original)?)?;
     Ok(Draft {
         folder: taken.mailbox.copy(alloc)?,
         kind: ItemKind::Report,
