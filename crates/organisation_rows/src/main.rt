@@ -29,6 +29,7 @@
 //! | `applies SENDER RECIPIENT MOMENT KEYS` | whether a rule with these keys applies |
 //! | `book` | what the rule book has, a line a part |
 //! | `run SENDER OPENED RECIPIENTS` | the fates under the rule book, the copies, and a line for each text |
+//! | `forks SENDER OPENED RECIPIENTS` | a line for each fork: its edits, each as RULE.ACTION, the places of its leaves, and the text after the edits |
 //! | `texts WORDS` | the place of each word, and how many texts there are |
 //! | `takes SENDER TARGET` | a letter for each journal rule: whether it takes the mail |
 //! | `journaled SENDER TARGETS` | each mailbox with the places of what it takes |
@@ -45,6 +46,7 @@ mod book_rows;
 mod desk;
 mod directory_rows;
 mod escapes;
+mod fork_rows;
 mod group_rows;
 mod journal_rows;
 mod reading_rows;

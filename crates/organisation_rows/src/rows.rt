@@ -6,7 +6,8 @@ use crate::reading_rows::HEADER;
 use crate::rule_rows::RULE;
 use crate::wrong::Wrong;
 use crate::{
-    blocks, book_rows, directory_rows, group_rows, journal_rows, reading_rows, rule_rows, run_rows,
+    blocks, book_rows, directory_rows, fork_rows, group_rows, journal_rows, reading_rows,
+    rule_rows, run_rows,
 };
 use org_directory::Directory;
 use std::alloc::Global;
@@ -82,6 +83,7 @@ fn ask_rules(
         "applies" => rule_rows::rule(alloc, desk, row, out)?,
         "book" => book_rows::shown(out, &desk.book)?,
         "run" => run_rows::fates(alloc, desk, row, out)?,
+        "forks" => fork_rows::forked(alloc, desk, row, out)?,
         "texts" => run_rows::texts(alloc, row, out)?,
         "takes" => journal_rows::taken(alloc, desk, row, out)?,
         "journaled" => journal_rows::journaled(alloc, desk, row, out)?,

@@ -10,7 +10,8 @@ use mail_names::{Bytes, Items, Key};
 use rule_engine::{Fate, Run, SideCopy, Texts, run_rules};
 use std::alloc::Global;
 
-fn leaves(alloc: Global, keys: &[Key]) -> Result<Items<Leaf>, Wrong> {
+/// Leaves of these keys.
+pub fn leaves(alloc: Global, keys: &[Key]) -> Result<Items<Leaf>, Wrong> {
     let mut leaves = Items::new(alloc);
     for key in keys {
         let key = key.copy(alloc)?;
