@@ -89,6 +89,12 @@ def cases():
     """Each case: its name, the text, the line that is wanted, and the exit status."""
     yield "the example", (ROOT / "examples/organisation/directory.csv").read_bytes(), b"ok\n", OK
     yield "the header alone", HEADER, b"ok\n", OK
+    forwards = HEADER.replace(b"tell", b"tell,forward,keep")
+    yield "the header of forwards alone", forwards, b"ok\n", OK
+    yield "a forward to no object", forwards + b"bob@example.com,mailbox,,,no,,,always,nix@example.com,no\n", b"directory fault 3 at 2\n", BAD
+    yield "a mailbox that keeps and doesn't forward", forwards + b"bob@example.com,mailbox,,,no,,,always,,yes\n", b"directory fault 1 at 2\n", BAD
+    yield "a forward to itself", forwards + b"bob@example.com,mailbox,,,no,,,always,BOB@example.com,yes\n", b"ok\n", OK
+    yield "eight fields behind the header of forwards", forwards + BOB, b"directory fault 1 at 2\n", BAD
     yield "lines that end with CR LF", (HEADER + BOB).replace(b"\n", b"\r\n"), b"ok\n", OK
     yield "quoted fields", HEADER + b'"bob@example.com","mailbox",,,no,,,"always"\n', b"ok\n", OK
     yield "rules that are empty", HEADER + BOB + b"%%\n", b"ok\n", OK

@@ -23,13 +23,13 @@ use Rattle.categorizer.proofs.Meeting.{no-rule}
 pub opens-more : (opened more : List Gate) → OpensMore opened (opened ++ more)
 opens-more opened more rule h = list_any-append (engine.opens rule) opened more ∙ or_left (engine.is_opened opened rule) (engine.is_opened more rule) h
 
-leaf-keys : (ws : List Way) (key : List ℕ) → is_leaf (map leaf_of ws) key ≡ among key (keys_of ws)
-leaf-keys [] key = refl
-leaf-keys (w ∷ ws) key = ap (λ b. bytes_eq key w.key || b) (leaf-keys ws key)
+leaf-keys : (reg : Register) (ws : List Way) (key : List ℕ) → is_leaf (map (leaf_of reg) ws) key ≡ among key (keys_of ws)
+leaf-keys reg [] key = refl
+leaf-keys reg (w ∷ ws) key = ap (λ b. bytes_eq key w.key || b) (leaf-keys reg ws key)
 
-closed-keys : (ws : List Way) (key : List ℕ) → is_opened (closed_gates (map closed_of ws)) (gates.Object key) ≡ among key (keys_of ws)
-closed-keys [] key = refl
-closed-keys (w ∷ ws) key = ap (λ b. bytes_eq key w.key || b) (closed-keys ws key)
+closed-keys : (reg : Register) (ws : List Way) (key : List ℕ) → is_opened (closed_gates (map (closed_of reg) ws)) (gates.Object key) ≡ among key (keys_of ws)
+closed-keys reg [] key = refl
+closed-keys reg (w ∷ ws) key = ap (λ b. bytes_eq key w.key || b) (closed-keys reg ws key)
 
 opens-gate : (key : List ℕ) (gate : Gate) → opens key gate ≡ same_gate (gates.Object key) gate
 opens-gate key (gates.Object other) = refl
@@ -73,20 +73,20 @@ met-closed reg closed roots key h =
 pub expands : (reg : Register) (roots : List (List ℕ)) (sender : Option (List ℕ)) (opened more : List Gate) →
     ExpansionGrows (opened ++ more) (expansion reg roots sender opened) (expansion reg roots sender (opened ++ more))
 expands reg roots sender opened more = record {
-  leaves = λ key h. leaf-keys (leaves reg (is_closed reg sender (opened ++ more)) roots) key
+  leaves = λ key h. leaf-keys reg (leaves reg (is_closed reg sender (opened ++ more)) roots) key
       ∙ leaves-stay reg (is_closed reg sender opened) (is_closed reg sender (opened ++ more)) roots key (fewer-closed reg sender opened more)
-      (sym (leaf-keys (leaves reg (is_closed reg sender opened) roots) key) ∙ h);
+      (sym (leaf-keys reg (leaves reg (is_closed reg sender opened) roots) key) ∙ h);
   closed = stays;
 }
   where
     by-test : (key : List ℕ) (b : Bool) → is_closed reg sender (opened ++ more) key ≡ b → among key (keys_of (closed_met reg (is_closed reg sender opened) roots)) ≡ true →
-        (is_opened (closed_gates (map closed_of (closed_met reg (is_closed reg sender (opened ++ more)) roots))) (gates.Object key) || is_opened (opened ++ more) (gates.Object key)) ≡ true
+        (is_opened (closed_gates (map (closed_of reg) (closed_met reg (is_closed reg sender (opened ++ more)) roots))) (gates.Object key) || is_opened (opened ++ more) (gates.Object key)) ≡ true
     by-test key true e h =
-        or_left (is_opened (closed_gates (map closed_of (closed_met reg (is_closed reg sender (opened ++ more)) roots))) (gates.Object key)) (is_opened (opened ++ more) (gates.Object key))
-        (closed-keys (closed_met reg (is_closed reg sender (opened ++ more)) roots) key
+        or_left (is_opened (closed_gates (map (closed_of reg) (closed_met reg (is_closed reg sender (opened ++ more)) roots))) (gates.Object key)) (is_opened (opened ++ more) (gates.Object key))
+        (closed-keys reg (closed_met reg (is_closed reg sender (opened ++ more)) roots) key
         ∙ closed-stay reg (is_closed reg sender opened) (is_closed reg sender (opened ++ more)) roots key (fewer-closed reg sender opened more) h e)
     by-test key false e h =
-        or_right (is_opened (closed_gates (map closed_of (closed_met reg (is_closed reg sender (opened ++ more)) roots))) (gates.Object key)) (is_opened (opened ++ more) (gates.Object key))
+        or_right (is_opened (closed_gates (map (closed_of reg) (closed_met reg (is_closed reg sender (opened ++ more)) roots))) (gates.Object key)) (is_opened (opened ++ more) (gates.Object key))
         (sym (opened-gate (opened ++ more) key)
         ∙ shown (needs_approval reg key sender) (list_any (opens key) opened) (list_any (opens key) (opened ++ more)) (met-closed reg (is_closed reg sender opened) roots key h) e)
       where
@@ -95,7 +95,7 @@ expands reg roots sender opened more = record {
         shown true a false h e = sym e
         shown false a b h e = absurd (cc)
 
-    stays : (gate : Gate) → is_gate_among gate (closed_gates (map closed_of (closed_met reg (is_closed reg sender opened) roots))) ≡ true →
-        (is_gate_among gate (closed_gates (map closed_of (closed_met reg (is_closed reg sender (opened ++ more)) roots))) || is_gate_among gate (opened ++ more)) ≡ true
-    stays (gates.Object key) h = by-test key (is_closed reg sender (opened ++ more) key) refl (sym (closed-keys (closed_met reg (is_closed reg sender opened) roots) key) ∙ h)
-    stays (gates.Rule place) h = let e : true ≡ false = sym h ∙ no-rule (map closed_of (closed_met reg (is_closed reg sender opened) roots)) place in absurd (cc)
+    stays : (gate : Gate) → is_gate_among gate (closed_gates (map (closed_of reg) (closed_met reg (is_closed reg sender opened) roots))) ≡ true →
+        (is_gate_among gate (closed_gates (map (closed_of reg) (closed_met reg (is_closed reg sender (opened ++ more)) roots))) || is_gate_among gate (opened ++ more)) ≡ true
+    stays (gates.Object key) h = by-test key (is_closed reg sender (opened ++ more) key) refl (sym (closed-keys reg (closed_met reg (is_closed reg sender opened) roots) key) ∙ h)
+    stays (gates.Rule place) h = let e : true ≡ false = sym h ∙ no-rule (map (closed_of reg) (closed_met reg (is_closed reg sender opened) roots)) place in absurd (cc)

@@ -3,7 +3,10 @@ use Rattle.std.proofs.Common.{◌≡◌, ℕ, ◌==◌, nat_lt, nat_le, Bool, tr
 use Rattle.std.specs.List.{AllByRecursion}
 use Rattle.std.proofs.lemmas.Bool.Decides.{nat_tests}
 use Rattle.mail_names.specs.declared.gate.Gate.{Gate}
-use Rattle.journal_report.specs.Reports.{is_clean, has_group}
+use Rattle.mail_names.specs.Steps.{has_forward}
+use Rattle.mail_names.specs.declared.route.Step.{Step}
+use Rattle.journal_report.specs.declared.why.Why.TheVariants as whys
+use Rattle.journal_report.specs.Reports.{is_clean, has_route}
 use Rattle.mail_notices.specs.About.{clean_byte, clean, clean_value}
 use Rattle.group_expand.specs.declared.outcome.Leaf.{Leaf}
 use Rattle.rule_engine.specs.declared.recipient.MadeCopy.{MadeCopy}
@@ -16,7 +19,7 @@ use Rattle.categorizer.specs.Releasing.{content, content_of, too_many_content, u
 use Rattle.categorizer.proofs.Naming.{and_true}
 
 abbrev pub Grouped : List Send → Type 0
-Grouped all = AllByRecursion (λ (send : Send). has_group send.why ≡ true) all
+Grouped all = AllByRecursion (λ (send : Send). has_route send.why ≡ true) all
 
 grouped-append : (xs ys : List Send) → Grouped xs → Grouped ys → Grouped (xs ++ ys)
 grouped-append [] ys p q = q
@@ -30,7 +33,7 @@ grouped-filter passes (x ∷ xs) p = at (passes x) (grouped-filter passes xs p.1
     at true h = (p.0, h)
     at false h = h
 
-grouped-with : (xs : List Send) (x : Send) (b : Bool) → Grouped xs → has_group x.why ≡ true → Grouped (if b then xs else xs ++ x ∷ [])
+grouped-with : (xs : List Send) (x : Send) (b : Bool) → Grouped xs → has_route x.why ≡ true → Grouped (if b then xs else xs ++ x ∷ [])
 grouped-with xs x true p h = p
 grouped-with xs x false p h = grouped-append xs (x ∷ []) p (h, tt)
 
@@ -38,9 +41,14 @@ grouped-fold : (more xs : List Send) → Grouped xs → Grouped more → Grouped
 grouped-fold [] xs p q = p
 grouped-fold (x ∷ more) xs p q = grouped-fold more (with_send xs x) (grouped-with xs x (is_target xs x.target) p q.0) q.1
 
-route-grouped : (route : List (List ℕ)) → has_group (route_why route) ≡ true
+route-grouped : (route : List Step) → has_route (route_why route) ≡ true
 route-grouped [] = refl
-route-grouped (group ∷ groups) = refl
+route-grouped (step ∷ steps) = by_test (has_forward (step ∷ steps)) refl
+  where
+    by_test : (b : Bool) → has_forward (step ∷ steps) ≡ b
+        → has_route (if b then whys.Through (step ∷ steps) else whys.Via (map (λ (s : Step). s.key) (step ∷ steps))) ≡ true
+    by_test true e = e
+    by_test false e = refl
 
 kept-at-grouped : (leaf : Leaf) (end : End) → Grouped (kept_at leaf end)
 kept-at-grouped leaf (ends.Keep text) = (route-grouped leaf.route, tt)

@@ -9,7 +9,7 @@ use Rattle.journal_report.specs.declared.why.Why.{Why}
 use Rattle.journal_report.specs.declared.why.Why.TheVariants as whys
 use Rattle.journal_report.specs.Listed.{Lists, OneLists}
 use Rattle.journal_report.specs.Report.{report_text}
-use Rattle.journal_report.specs.Reports.{is_clean, has_group, FitsWhy}
+use Rattle.journal_report.specs.Reports.{is_clean, has_route, FitsWhy}
 use Rattle.journal_report.proofs.Offered.{lists}
 use Rattle.journal_rules.specs.Taking.{is_taken, named, taken_by, has_some, takings}
 use Rattle.journal_rules.specs.Taking as taking
@@ -78,16 +78,16 @@ pub record IsSound (letter : Letter) (sender : Option (List ℕ)) : Type 0 where
   pub sender-key : IfSome sender IsKey
 
 is-report-at : (moment : ℕ) (id subject : List ℕ) (lines : List Line) → moment ≤ 253402300799 → is_clean id ≡ true → is_clean subject ≡ true → nat_lt 0 (length lines) ≡ true →
-    length lines < 2 ^ 32 → list_all (λ (line : Line). has_group line.why) lines ≡ true →
-    (nat_le moment 253402300799 && (is_clean id && (is_clean subject && (nat_lt 0 (length lines) && (nat_lt (length lines) (2 ^ 32) && list_all (λ (line : Line). has_group line.why) lines))))) ≡ true
+    length lines < 2 ^ 32 → list_all (λ (line : Line). has_route line.why) lines ≡ true →
+    (nat_le moment 253402300799 && (is_clean id && (is_clean subject && (nat_lt 0 (length lines) && (nat_lt (length lines) (2 ^ 32) && list_all (λ (line : Line). has_route line.why) lines))))) ≡ true
 is-report-at moment id subject lines m i s some few grouped =
     let a : nat_le moment 253402300799 ≡ true = grind (arith, nat_tests) in
     let b : nat_lt (length lines) (2 ^ 32) ≡ true = grind (arith, nat_tests) in
-    and_true (nat_le moment 253402300799) (is_clean id && (is_clean subject && (nat_lt 0 (length lines) && (nat_lt (length lines) (2 ^ 32) && list_all (λ (line : Line). has_group line.why) lines)))) a
-    (and_true (is_clean id) (is_clean subject && (nat_lt 0 (length lines) && (nat_lt (length lines) (2 ^ 32) && list_all (λ (line : Line). has_group line.why) lines))) i
-    (and_true (is_clean subject) (nat_lt 0 (length lines) && (nat_lt (length lines) (2 ^ 32) && list_all (λ (line : Line). has_group line.why) lines)) s
-    (and_true (nat_lt 0 (length lines)) (nat_lt (length lines) (2 ^ 32) && list_all (λ (line : Line). has_group line.why) lines) some
-    (and_true (nat_lt (length lines) (2 ^ 32)) (list_all (λ (line : Line). has_group line.why) lines) b grouped))))
+    and_true (nat_le moment 253402300799) (is_clean id && (is_clean subject && (nat_lt 0 (length lines) && (nat_lt (length lines) (2 ^ 32) && list_all (λ (line : Line). has_route line.why) lines)))) a
+    (and_true (is_clean id) (is_clean subject && (nat_lt 0 (length lines) && (nat_lt (length lines) (2 ^ 32) && list_all (λ (line : Line). has_route line.why) lines))) i
+    (and_true (is_clean subject) (nat_lt 0 (length lines) && (nat_lt (length lines) (2 ^ 32) && list_all (λ (line : Line). has_route line.why) lines)) s
+    (and_true (nat_lt 0 (length lines)) (nat_lt (length lines) (2 ^ 32) && list_all (λ (line : Line). has_route line.why) lines) some
+    (and_true (nat_lt (length lines) (2 ^ 32)) (list_all (λ (line : Line). has_route line.why) lines) b grouped))))
 
 -- what the types of drafts' items hold, the first of which has this place
 abbrev Fits : ℕ → ℕ → List (List ℕ) → ℕ → List Draft → Type 0
@@ -210,16 +210,17 @@ module _ (letter : Letter) (sender : Option (List ℕ)) (sends : List Send) wher
             (sym (no-lines (is_taken register sender journals mailbox) (map line_of sends) (nobody-takes register sender journals mailbox e))) h
 
 -- versions
-why-fits : (why : Why) → IsWhy why → FitsWhy why
-why-fits whys.Direct is = tt
-why-fits (whys.Via groups) is = is.1
-why-fits (whys.Copied rule) is = is
-why-fits (whys.Redirected rule) is = is
+why-fits : (why : Why) → IsWhy why → has_route why ≡ true → FitsWhy why
+why-fits whys.Direct is routed = tt
+why-fits (whys.Via groups) is routed = is.1
+why-fits (whys.Copied rule) is routed = is
+why-fits (whys.Redirected rule) is routed = is
+why-fits (whys.Through steps) is routed = (is.1, routed)
 
 sends-good : (number release place : ℕ) (texts : List (List ℕ)) (sends : List Send) → Fits number release texts place (map version_of sends) → Grouped sends → AllByRecursion Good (map line_of sends)
 sends-good number release place texts [] fits grouped = tt
 sends-good number release place texts (send ∷ sends) fits grouped =
-    ((record { target = fits.0.folder; why = why-fits send.why fits.0.why }, grouped.0), sends-good number release (place + 1) texts sends fits.1 grouped.1)
+    ((record { target = fits.0.folder; why = why-fits send.why fits.0.why grouped.0 }, grouped.0), sends-good number release (place + 1) texts sends fits.1 grouped.1)
 
 items-length : (number release place : ℕ) (texts : List (List ℕ)) (drafts : List Draft) → length (items_from number release place texts drafts) ≡ length drafts
 items-length number release place texts [] = refl

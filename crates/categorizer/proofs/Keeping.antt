@@ -76,7 +76,7 @@ met-few org number accepted_at submission opened objects those =
     let case : Case = case_at org number accepted_at submission in
     let closed : List ℕ → Bool = is_closed org.register submission.reverse opened in
     few-append org.register org.book.rules (closed_gates (case.expand opened).closed) (held_rules (judged_in case opened) 0 org.book.rules)
-    (subst (λ (ws : List Way). AllFew org.register org.book.rules (closed_gates (map closed_of ws)))
+    (subst (λ (ws : List Way). AllFew org.register org.book.rules (closed_gates (map (closed_of org.register) ws)))
     (sym (first-filter (is_closed org.register submission.reverse opened) (λ k. false) (all_ways org.register (is_closed org.register submission.reverse opened) submission.recipients)))
     (few-closed org.register org.book.rules (is_closed org.register submission.reverse opened)
     (closed-few org.register org.book.rules submission.reverse opened objects)
@@ -160,7 +160,7 @@ sent_once org earlier later c target h =
 met-distinct : (org : Organisation) (number accepted_at : ℕ) (submission : Submitted) (opened : List Gate) → are_distinct_gates (met_in (case_at org number accepted_at submission) opened) ≡ true
 met-distinct org number accepted_at submission opened =
     held-distinct (expansion org.register submission.recipients submission.reverse opened).closed (judged_in (case_at org number accepted_at submission) opened) org.book.rules
-    (closed-distinct (λ k. false) (filter (λ (w : Way). is_closed org.register submission.reverse opened w.key) (all_ways org.register (is_closed org.register submission.reverse opened) submission.recipients)))
+    (closed-distinct org.register (λ k. false) (filter (λ (w : Way). is_closed org.register submission.reverse opened w.key) (all_ways org.register (is_closed org.register submission.reverse opened) submission.recipients)))
 
 holds-distinct : (case : Case) (before : Option (List Gate)) (opened : List Gate) → are_distinct_gates (met_in case opened) ≡ true →
     are_distinct_gates (gates_of (content case before opened).holds) ≡ true

@@ -69,12 +69,12 @@ append-distinct (gate ∷ xs) ys p q apart =
     gate-same (gates.Rule place) = number_same place
 
 -- the first ways have no key that was had
-unhad-at : (had : List ℕ → Bool) (w : Way) (ws : List Way) (key : List ℕ) (b : Bool) → had w.key ≡ b →
-    ((f : List ℕ → Bool) → is_opened (closed_gates (map closed_of (fresh f ws))) (gates.Object key) ≡ true → f key ≡ false) →
-    is_opened (closed_gates (map closed_of (if b then fresh had ws else w ∷ fresh (λ k. bytes_eq k w.key || had k) ws))) (gates.Object key) ≡ true → had key ≡ false
-unhad-at had w ws key true e step h = step had h
-unhad-at had w ws key false e step h =
-    either (bytes_eq key w.key) (is_opened (closed_gates (map closed_of (fresh (λ k. bytes_eq k w.key || had k) ws))) (gates.Object key))
+unhad-at : (reg : Register) (had : List ℕ → Bool) (w : Way) (ws : List Way) (key : List ℕ) (b : Bool) → had w.key ≡ b →
+    ((f : List ℕ → Bool) → is_opened (closed_gates (map (closed_of reg) (fresh f ws))) (gates.Object key) ≡ true → f key ≡ false) →
+    is_opened (closed_gates (map (closed_of reg) (if b then fresh had ws else w ∷ fresh (λ k. bytes_eq k w.key || had k) ws))) (gates.Object key) ≡ true → had key ≡ false
+unhad-at reg had w ws key true e step h = step had h
+unhad-at reg had w ws key false e step h =
+    either (bytes_eq key w.key) (is_opened (closed_gates (map (closed_of reg) (fresh (λ k. bytes_eq k w.key || had k) ws))) (gates.Object key))
     (λ same. subst (λ k. had k ≡ false) (sym (same_bytes key w.key same)) e)
     (λ there. second (bytes_eq key w.key) (had key) (step (λ k. bytes_eq k w.key || had k) there)) h
   where
@@ -82,26 +82,26 @@ unhad-at had w ws key false e step h =
     second true b e = absurd (cc)
     second false b e = e
 
-unhad : (had : List ℕ → Bool) (ws : List Way) (key : List ℕ) → is_opened (closed_gates (map closed_of (fresh had ws))) (gates.Object key) ≡ true → had key ≡ false
-unhad had [] key h = absurd (cc)
-unhad had (w ∷ ws) key h = unhad-at had w ws key (had w.key) refl (λ f. unhad f ws key) h
+unhad : (reg : Register) (had : List ℕ → Bool) (ws : List Way) (key : List ℕ) → is_opened (closed_gates (map (closed_of reg) (fresh had ws))) (gates.Object key) ≡ true → had key ≡ false
+unhad reg had [] key h = absurd (cc)
+unhad reg had (w ∷ ws) key h = unhad-at reg had w ws key (had w.key) refl (λ f. unhad reg f ws key) h
 
-closed-distinct-at : (had : List ℕ → Bool) (w : Way) (ws : List Way) (b : Bool) →
-    ((f : List ℕ → Bool) → are_distinct_gates (closed_gates (map closed_of (fresh f ws))) ≡ true) →
-    are_distinct_gates (closed_gates (map closed_of (if b then fresh had ws else w ∷ fresh (λ k. bytes_eq k w.key || had k) ws))) ≡ true
-closed-distinct-at had w ws true step = step had
-closed-distinct-at had w ws false step =
-    let rest : List Gate = closed_gates (map closed_of (fresh (λ k. bytes_eq k w.key || had k) ws)) in
+closed-distinct-at : (reg : Register) (had : List ℕ → Bool) (w : Way) (ws : List Way) (b : Bool) →
+    ((f : List ℕ → Bool) → are_distinct_gates (closed_gates (map (closed_of reg) (fresh f ws))) ≡ true) →
+    are_distinct_gates (closed_gates (map (closed_of reg) (if b then fresh had ws else w ∷ fresh (λ k. bytes_eq k w.key || had k) ws))) ≡ true
+closed-distinct-at reg had w ws true step = step had
+closed-distinct-at reg had w ws false step =
+    let rest : List Gate = closed_gates (map (closed_of reg) (fresh (λ k. bytes_eq k w.key || had k) ws)) in
     and_true (not (is_gate_among (gates.Object w.key) rest)) (are_distinct_gates rest)
     (ap not (never (is_opened rest (gates.Object w.key))
-    (λ h. let e : (bytes_eq w.key w.key || had w.key) ≡ false = unhad (λ k. bytes_eq k w.key || had k) ws w.key h in
+    (λ h. let e : (bytes_eq w.key w.key || had w.key) ≡ false = unhad reg (λ k. bytes_eq k w.key || had k) ws w.key h in
     let f : true ≡ false = sym (or_left (bytes_eq w.key w.key) (had w.key) (bytes_same w.key)) ∙ e in cc)))
     (step (λ k. bytes_eq k w.key || had k))
 
 -- each closed object once
-pub closed-distinct : (had : List ℕ → Bool) (ws : List Way) → are_distinct_gates (closed_gates (map closed_of (fresh had ws))) ≡ true
-closed-distinct had [] = refl
-closed-distinct had (w ∷ ws) = closed-distinct-at had w ws (had w.key) (λ f. closed-distinct f ws)
+pub closed-distinct : (reg : Register) (had : List ℕ → Bool) (ws : List Way) → are_distinct_gates (closed_gates (map (closed_of reg) (fresh had ws))) ≡ true
+closed-distinct reg had [] = refl
+closed-distinct reg had (w ∷ ws) = closed-distinct-at reg had w ws (had w.key) (λ f. closed-distinct reg f ws)
 
 -- rules
 rules-above : (all : List Judged) (place : ℕ) (rules : List Rule) (rule : ℕ) → is_opened (held_rules all place rules) (gates.Rule rule) ≡ true → place ≤ rule
@@ -222,12 +222,12 @@ module _ (register : Register) (those : List Rule) where
 
   -- closed objects, where what is closed has moderators
   pub few-closed : (closed : List ℕ → Bool) → ((key : List ℕ) → closed key ≡ true → is_few (hold_of register those (gates.Object key)).moderators ≡ true) →
-      (ws : List Way) → AllFew (closed_gates (map closed_of (filter (λ (w : Way). closed w.key) ws)))
+      (ws : List Way) → AllFew (closed_gates (map (closed_of register) (filter (λ (w : Way). closed w.key) ws)))
   few-closed closed few [] = tt
   few-closed closed few (w ∷ ws) = at (closed w.key) refl (few-closed closed few ws)
     where
-      at : (b : Bool) → closed w.key ≡ b → AllFew (closed_gates (map closed_of (filter (λ (w : Way). closed w.key) ws))) →
-          AllFew (closed_gates (map closed_of (if b then w ∷ filter (λ (w : Way). closed w.key) ws else filter (λ (w : Way). closed w.key) ws)))
+      at : (b : Bool) → closed w.key ≡ b → AllFew (closed_gates (map (closed_of register) (filter (λ (w : Way). closed w.key) ws))) →
+          AllFew (closed_gates (map (closed_of register) (if b then w ∷ filter (λ (w : Way). closed w.key) ws else filter (λ (w : Way). closed w.key) ws)))
       at true e rest = (few w.key e, rest)
       at false e rest = rest
 

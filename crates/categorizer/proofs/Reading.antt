@@ -8,8 +8,8 @@ use Rattle.mail_names.specs.declared.gate.Gate.TheVariants as gates
 use Rattle.mail_names.specs.declared.gate.Gate.{Gate}
 use Rattle.org_directory.specs.Register.{Register, key_at, object_of, object_at, place_of, is_group}
 use Rattle.org_directory.specs.Membership.{is_cleared, object_needs}
-use Rattle.org_directory.specs.Lines.{is_header, line_of, has_none}
-use Rattle.org_directory.specs.Reading.{Taken, none_taken, entries_of, keys_of, take_line, take_row, and_then, first_pass, names_well, fault_of, or_else, second_pass, placed, place_or_0, unless_fault, both_passes, register_of}
+use Rattle.org_directory.specs.Lines.{columns_of, line_of, has_none, may_forward}
+use Rattle.org_directory.specs.Reading.{Taken, none_taken, begun, entries_in, entries_of, keys_of, take_line, take_row, and_then, first_pass, names_well, fault_of, or_else, second_pass, placed, place_or_0, unless_fault, both_passes, register_of}
 use Rattle.org_directory.specs.Register.{among}
 use Rattle.org_directory.specs.declared.draft.Draft.{Draft}
 use Rattle.org_directory.specs.declared.draft.Line.{Line}
@@ -47,16 +47,22 @@ short-line t row None h e = tt
 short-line t row (Some (lines.Domain name)) h e =
     short-if (among name t.domains) (Err (faults.DoubleKey row)) (Ok (record t { rows = row; domains = t.domains ++ name ∷ [] })) tt h
 short-line t row (Some (lines.Object d)) h e =
-    short-if (nat_lt 20000 (length t.drafts + 1) || nat_lt 200000 (entries_of t.drafts + length d.members)) (Err (faults.TooMany row))
+    short-if (nat_lt 20000 (length t.drafts + 1) || nat_lt 200000 (entries_of t.drafts + entries_in d)) (Err (faults.TooMany row))
     (if among d.key (keys_of t.drafts) then Err (faults.DoubleKey row) else Ok (record t { rows = row; drafts = t.drafts ++ d ∷ [] })) tt
     (short-if (among d.key (keys_of t.drafts)) (Err (faults.DoubleKey row)) (Ok (record t { rows = row; drafts = t.drafts ++ d ∷ [] })) tt
-    (all-push t.drafts d h (and_parts (is_group d.kind || has_none d.members) (is_short d) e).1))
+    (all-push t.drafts d h
+    (and_parts (is_short d) (may_forward d.kind (length d.forward) d.keep)
+    (and_parts (is_group d.kind || has_none d.members) (is_short d && may_forward d.kind (length d.forward) d.keep) e).1).0))
+
+short-begun : (t : Taken) (columns : Option ℕ) → list_all is_short t.drafts ≡ true → ShortIn (begun t columns)
+short-begun t None h = tt
+short-begun t (Some columns) h = h
 
 short-row : (t : Taken) (fields : List (List ℕ)) → list_all is_short t.drafts ≡ true → ShortIn (take_row t fields)
 short-row t fields h =
-    short-if (t.rows == 0) (if is_header fields then Ok (record t { rows = 1 }) else Err (faults.BadRow 1)) (take_line t (t.rows + 1) (line_of (t.rows + 1) fields))
-    (short-if (is_header fields) (Ok (record t { rows = 1 })) (Err (faults.BadRow 1)) h tt)
-    (short-line t (t.rows + 1) (line_of (t.rows + 1) fields) h (line-fits (t.rows + 1) fields))
+    short-if (t.rows == 0) (begun t (columns_of fields)) (take_line t (t.rows + 1) (line_of t.columns (t.rows + 1) fields))
+    (short-begun t (columns_of fields) h)
+    (short-line t (t.rows + 1) (line_of t.columns (t.rows + 1) fields) h (line-fits t.columns (t.rows + 1) fields))
 
 short-then : (r : Result Taken DirectoryFault) (more : Taken → Result Taken DirectoryFault) → ShortIn r → ((t : Taken) → list_all is_short t.drafts ≡ true → ShortIn (more t)) → ShortIn (and_then r more)
 short-then (Ok t) more h f = f t h

@@ -5,7 +5,7 @@ use Rattle.std.specs.List.{list_all, AllByRecursion}
 use Rattle.std.proofs.lemmas.Bool.Decides.{nat_tests}
 use Rattle.journal_report.specs.declared.parts.Line.{Line}
 use Rattle.journal_report.specs.declared.why.Why.TheVariants as whys
-use Rattle.journal_report.specs.Reports.{has_group, FitsLine}
+use Rattle.journal_report.specs.Reports.{has_route, FitsLine}
 use Rattle.journal_rules.specs.Taking.{places, has_some}
 use Rattle.journal_rules.specs.declared.taking.Taken.{Taken}
 use Rattle.mail_plan.specs.Planning.{is_version, lines_of, is_report_to, text_in}
@@ -244,19 +244,19 @@ no-lines passes (line ∷ lines) none =
 
 -- what holds of versions' lines holds of those that are taken
 abbrev pub Good : Line → Type 0
-Good line = FitsLine line × (has_group line.why ≡ true)
+Good line = FitsLine line × (has_route line.why ≡ true)
 
 pub good-taken : (passes : List ℕ → Bool) (lines : List Line) → AllByRecursion Good lines →
-    AllByRecursion FitsLine (filter (λ (line : Line). passes line.target) lines) × (list_all (λ (line : Line). has_group line.why) (filter (λ (line : Line). passes line.target) lines) ≡ true)
+    AllByRecursion FitsLine (filter (λ (line : Line). passes line.target) lines) × (list_all (λ (line : Line). has_route line.why) (filter (λ (line : Line). passes line.target) lines) ≡ true)
 good-taken passes [] all = (tt, refl)
 good-taken passes (line ∷ lines) all = step (passes line.target) (good-taken passes lines all.1)
   where
     rest : List Line
     rest = filter (λ (line : Line). passes line.target) lines
 
-    step : (b : Bool) → AllByRecursion FitsLine rest × (list_all (λ (line : Line). has_group line.why) rest ≡ true) →
-        AllByRecursion FitsLine (if b then line ∷ rest else rest) × (list_all (λ (line : Line). has_group line.why) (if b then line ∷ rest else rest) ≡ true)
-    step true h = ((all.0.0, h.0), and_true (has_group line.why) (list_all (λ (line : Line). has_group line.why) rest) all.0.1 h.1)
+    step : (b : Bool) → AllByRecursion FitsLine rest × (list_all (λ (line : Line). has_route line.why) rest ≡ true) →
+        AllByRecursion FitsLine (if b then line ∷ rest else rest) × (list_all (λ (line : Line). has_route line.why) (if b then line ∷ rest else rest) ≡ true)
+    step true h = ((all.0.0, h.0), and_true (has_route line.why) (list_all (λ (line : Line). has_route line.why) rest) all.0.1 h.1)
     step false h = h
 
 pub fewer-taken : (passes : List ℕ → Bool) (lines : List Line) → length (filter (λ (line : Line). passes line.target) lines) ≤ length lines

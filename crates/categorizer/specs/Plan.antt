@@ -3,6 +3,8 @@ use Rattle.std.specs.Prelude.{ℕ, ◌+◌, ◌==◌, ◌&&◌, not, Bool, false
 use Rattle.std.specs.List.{list_any}
 use Rattle.mail_names.specs.declared.gate.Gate.{Gate}
 use Rattle.mail_names.specs.declared.gate.Gate.TheVariants as gates
+use Rattle.mail_names.specs.Steps.{has_forward}
+use Rattle.mail_names.specs.declared.route.Step.{Step}
 use Rattle.mail_message.specs.Message.{Mail}
 use Rattle.journal_report.specs.declared.why.Why.{Why}
 use Rattle.journal_report.specs.declared.why.Why.TheVariants as whys
@@ -37,9 +39,11 @@ judged rules setting message opened (leaf ∷ leaves) =
     record { leaf = leaf; outcome = fate rules setting message opened leaf.key } ∷ judged rules setting message opened leaves
 
 -- A leaf without a route is named in the envelope itself.
-abbrev pub route_why : List (List ℕ) → Why
+-- Where a mailbox of the route forwarded, the steps are told, and else the groups.
+abbrev pub route_why : List Step → Why
 route_why [] = whys.Direct
-route_why (group ∷ groups) = whys.Via (group ∷ groups)
+route_why (step ∷ steps) =
+    if has_forward (step ∷ steps) then whys.Through (step ∷ steps) else whys.Via (map (λ (s : Step). s.key) (step ∷ steps))
 
 -- a leaf that is kept
 abbrev pub kept_at : Leaf → End → List Send

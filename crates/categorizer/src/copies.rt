@@ -3,7 +3,7 @@ ghost use Rattle.std.specs.Prelude.{◌≡◌, IfOk};
 
 use crate::parts::{Rejection, Send};
 use group_expand::Leaf;
-use mail_names::{Bytes, Items, NoMemory, copied_keys};
+use mail_names::{Bytes, Items, NoMemory, copied_steps};
 use std::alloc::Global;
 
 pub fn copied_leaf(alloc: Global, leaf: &Leaf) -> Result<Leaf, NoMemory>
@@ -11,7 +11,7 @@ pub fn copied_leaf(alloc: Global, leaf: &Leaf) -> Result<Leaf, NoMemory>
 {
     Ok(Leaf {
         key: leaf.key.copy(alloc)?,
-        route: copied_keys(alloc, leaf.route.as_slice())?,
+        route: copied_steps(alloc, leaf.route.as_slice())?,
     })
 }
 

@@ -5,7 +5,7 @@ ghost use Rattle.categorizer.specs.Plan.{is_target, with_send, route_why, kept_a
 use crate::parts::{Judged, Send};
 use group_expand::Leaf;
 use journal_report::Why;
-use mail_names::{Items, Key, NoMemory, copied_keys};
+use mail_names::{Items, Key, NoMemory, Step, copied_steps, has_forward, keys_of_steps};
 use rule_engine::{End, MadeCopy, RuleOutcome};
 use std::alloc::Global;
 
@@ -26,13 +26,17 @@ fn add_send(sends: &mut Items<Send>, send: Send) -> Result<(), NoMemory>
     Ok(())
 }
 
-fn route_why(alloc: Global, route: &[Key]) -> Result<Why, NoMemory>
+fn route_why(alloc: Global, route: &[Step]) -> Result<Why, NoMemory>
     ensures { IfOk result (λ why. why ≡ route_why route.now) }
 {
     if route.is_empty() {
         return Ok(Why::Direct);
     }
-    let groups = copied_keys(alloc, route)?;
+    if has_forward(route) {
+        let steps = copied_steps(alloc, route)?;
+        return Ok(Why::Through { steps });
+    }
+    let groups = keys_of_steps(alloc, route)?;
     Ok(Why::Via { groups })
 }
 

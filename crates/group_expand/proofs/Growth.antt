@@ -4,7 +4,7 @@ use Rattle.std.proofs.Common.{sym, ◌∙◌, ap, subst, inl, inr, arith}
 use Rattle.std.proofs.lemmas.Grind.{common_steps}
 use Rattle.std.specs.List.{flat_map}
 use Rattle.std.specs.Str.{bytes_eq}
-use Rattle.org_directory.specs.Register.{among, Register, is_inside, object_of, members_of}
+use Rattle.org_directory.specs.Register.{among, Register, is_inside, object_of, onward_of}
 use Rattle.group_expand.specs.Ways.{Web, ways, here, unless, fresh}
 use Rattle.group_expand.specs.declared.way.Way.{Way}
 use Rattle.org_directory.proofs.Offered.{same_key, key_is_itself}
@@ -159,7 +159,7 @@ goes-on reg before after opens k = by_test (before k) refl (after k) refl
     clash b c off on h = cc (off, h on)
 
     by_test : (b : Bool) → before k ≡ b → (c : Bool) → after k ≡ c
-        → ((if b then [] else members_of reg k) ≡ []) ⊎ ((if b then [] else members_of reg k) ≡ (if c then [] else members_of reg k))
+        → ((if b then [] else onward_of reg k) ≡ []) ⊎ ((if b then [] else onward_of reg k) ≡ (if c then [] else onward_of reg k))
     by_test true e c f = inl refl
     by_test false e true f = absurd (clash (before k) (after k) e f (opens k))
     by_test false e false f = inr refl

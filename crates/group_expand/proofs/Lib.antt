@@ -1,4 +1,5 @@
 pub mod Asked
+pub mod Before
 pub mod Growth
 pub mod Listed
 pub mod Listing

@@ -6,7 +6,7 @@ use Rattle.std.proofs.lemmas.Map.Steps.{length-le_from_distinct_below}
 use Rattle.std.proofs.lemmas.Map.Keys.{IsDistinct-push}
 use Rattle.std.specs.List.{list_any, IsDistinct}
 use Rattle.std.specs.Cmp.{nat_eq_equiv}
-use Rattle.org_directory.specs.Register.{among, Register, keys_at, members_in, place_of, object_at, members_of}
+use Rattle.org_directory.specs.Register.{among, Register, keys_at, onward_in, place_of, object_at, onward_of}
 use Rattle.group_expand.specs.Ways.{ways}
 use Rattle.group_expand.specs.Routes.{web_of}
 use Rattle.group_expand.specs.Paths.{Has, IsChain, NoRepeat, way_through, ListsEvery}
@@ -21,11 +21,11 @@ Objects-push reg (x ∷ xs) k a b = (a.0, Objects-push reg xs k a.1 b)
 carrier-there : (reg : Register) (closed : List ℕ → Bool) (k m : List ℕ) → among m ((web_of reg closed).next k) ≡ true → (p : ℕ) × (place_of reg k ≡ Some p)
 carrier-there reg closed k m h = by_closed (closed k) h
   where
-    by_place : (o : Option ℕ) → place_of reg k ≡ o → among m (keys_at reg (members_in (object_at reg o))) ≡ true → (p : ℕ) × (place_of reg k ≡ Some p)
+    by_place : (o : Option ℕ) → place_of reg k ≡ o → among m (keys_at reg (onward_in (object_at reg o))) ≡ true → (p : ℕ) × (place_of reg k ≡ Some p)
     by_place None e h = absurd (cc h)
     by_place (Some p) e h = (p, e)
 
-    by_closed : (b : Bool) → among m (if b then [] else members_of reg k) ≡ true → (p : ℕ) × (place_of reg k ≡ Some p)
+    by_closed : (b : Bool) → among m (if b then [] else onward_of reg k) ≡ true → (p : ℕ) × (place_of reg k ≡ Some p)
     by_closed true h = absurd (cc h)
     by_closed false h = by_place (place_of reg k) refl h
 

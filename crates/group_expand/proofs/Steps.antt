@@ -1,5 +1,5 @@
 -- The steps of the walk by places are steps of the walk on keys.
-use Rattle.std.specs.Prelude.{replicate, ◌≡◌, ◌<◌, ◌≤◌, ◌+◌, ℕ, zero, suc, Bool, true, false, not, ◌||◌, if◌then◌else◌, List, [], ◌∷◌, ◌++◌, length, map, reverse, drop, Option, Some, None, slice_get, get_or, sum_by, All, refl}
+use Rattle.std.specs.Prelude.{replicate, ◌≡◌, ◌<◌, ◌≤◌, ◌+◌, ℕ, zero, suc, Bool, true, false, not, ◌||◌, if◌then◌else◌, List, [], ◌∷◌, ◌++◌, length, map, reverse, drop, Option, Some, None, is_some, slice_get, get_or, sum_by, All, refl}
 use Rattle.std.proofs.Common.{sym, ◌∙◌, ap, subst, arith, rules, length-append, set}
 use Rattle.std.proofs.lemmas.Grind.{common_steps}
 use Rattle.std.proofs.lemmas.List.{length-replicate, append-nil, length-map, reverse-reverse, reverse-append, get_or-set_same, get_or-set_other, map-append, length-set}
@@ -9,8 +9,8 @@ use Rattle.std.proofs.lemmas.List.Elements.{All-append, All-head, All-tail, All-
 use Rattle.std.proofs.lemmas.Option.{slice_get_within}
 use Rattle.std.proofs.lemmas.List.Sums.{sum_by-set, sum_by-append}
 use Rattle.std.specs.Str.{bytes_eq}
-use Rattle.org_directory.proofs.Offered.{object-there, place_of-key_at, below-place, object_of-at, members-at, found-below, same_key, key_is_itself}
-use Rattle.org_directory.specs.Register.{Register, IsSound, key_at, keys_at, members_in, is_group, is_inside, place_of, object_of, object_at, members_of, among}
+use Rattle.org_directory.proofs.Offered.{object-there, place_of-key_at, below-place, object_of-at, onward-at, onward-below, onward-few, found-below, same_key, key_is_itself}
+use Rattle.org_directory.specs.Register.{Register, IsSound, forward_list, key_at, keys_at, onward, onward_in, is_carrier, is_group, is_inside, place_of, object_of, object_at, onward_of, among}
 use Rattle.group_expand.specs.Ways.{Web, first_of_each, here}
 use Rattle.group_expand.specs.Marked.{Frame, frame, Holding, Facing, with_key, trail_of}
 use Rattle.org_directory.specs.declared.object.Object.{Object}
@@ -18,13 +18,13 @@ use Rattle.group_expand.specs.declared.way.Way.{Way}
 use Rattle.group_expand.proofs.Walking.{holding-pop, holding-end, holding-nothing, holding-start, facing-member, facing-root, facing-skip, facing-enter}
 use Rattle.group_expand.specs.declared.walk.Entered.{Entered}
 use Rattle.group_expand.specs.Routes.{all_ways, web_of, is_leaf}
-use Rattle.group_expand.specs.Places.{places_of, is_no_group, ends_at, entry, entered, frame_of, frames_of, marked_at, had_by, cost, unmarked, Holds, Faces, Ready, Took, with_stranger, no_marks, entries, groups, CostsEntriesAndGroups, price, owed, left_of, all_owed}
+use Rattle.group_expand.specs.Places.{places_of, is_end_in, is_no_carrier, ends_at, stops_at, entry, entered, frame_of, frames_of, marked_at, had_by, cost, unmarked, Holds, Faces, Ready, Took, with_stranger, no_marks, entries, carriers, CostsEntriesAndCarriers, price, owed, left_of, all_owed}
 
 pub had-at : (reg : Register) (marks : List Bool) (found : List Way) (p : ℕ) → IsSound reg → p < length reg.objects
     → had_by reg marks found (key_at reg p) ≡ get_or marks p false
 had-at reg marks found p sound h = ap (marked_at marks found (key_at reg p)) (place_of-key_at reg p sound h)
 
-leaf-is : (o : Option Object) (inside : Bool) (x : Object) → o ≡ Some x → is_leaf o inside ≡ is_no_group o
+leaf-is : (o : Option Object) (inside : Bool) (x : Object) → o ≡ Some x → is_leaf o inside ≡ is_end_in o
 leaf-is (Some o) inside x h = refl
 leaf-is None inside x h = absurd (cc h)
 
@@ -33,45 +33,46 @@ is_end-at : (reg : Register) (shut : List ℕ → Bool) (p : ℕ) → IsSound re
 is_end-at reg shut p sound h =
     let there : (o : Object) × (slice_get reg.objects p ≡ Some o) = object-there reg.objects p h in
     let e2 : object_of reg (key_at reg p) ≡ slice_get reg.objects p = object_of-at reg p sound h in
-    let e3 : is_leaf (slice_get reg.objects p) (is_inside reg (key_at reg p)) ≡ is_no_group (slice_get reg.objects p)
+    let e3 : is_leaf (slice_get reg.objects p) (is_inside reg (key_at reg p)) ≡ is_end_in (slice_get reg.objects p)
     = leaf-is (slice_get reg.objects p) (is_inside reg (key_at reg p)) there.0 there.1 in
-    let e4 : is_leaf (object_of reg (key_at reg p)) (is_inside reg (key_at reg p)) ≡ is_no_group (slice_get reg.objects p)
+    let e4 : is_leaf (object_of reg (key_at reg p)) (is_inside reg (key_at reg p)) ≡ is_end_in (slice_get reg.objects p)
     = ap (λ o. is_leaf o (is_inside reg (key_at reg p))) e2 ∙ e3 in
     ap (λ b. shut (key_at reg p) || b) e4
 
--- what follows a key, where no way ends at it, and where one does
+-- what follows a key, where ways go on from it, and where none does
 or-false : (a b : Bool) → (a || b) ≡ false → (a ≡ false) × (b ≡ false)
 or-false true b h = absurd (cc h)
 or-false false b h = (refl, h)
 
-next-open : (reg : Register) (shut : List ℕ → Bool) (p : ℕ) → IsSound reg → p < length reg.objects → ends_at reg shut p ≡ false
-    → (web_of reg shut).next (key_at reg p) ≡ keys_at reg (members_in (slice_get reg.objects p))
+next-open : (reg : Register) (shut : List ℕ → Bool) (p : ℕ) → IsSound reg → p < length reg.objects → stops_at reg shut p ≡ false
+    → (web_of reg shut).next (key_at reg p) ≡ keys_at reg (onward_in (slice_get reg.objects p))
 next-open reg shut p sound h open-here =
     let e1 : shut (key_at reg p) ≡ false
-    = (or-false (shut (key_at reg p)) (is_no_group (slice_get reg.objects p)) open-here).0 in
-    ap (λ b. if b then [] else members_of reg (key_at reg p)) e1 ∙ members-at reg p sound h
+    = (or-false (shut (key_at reg p)) (is_no_carrier (slice_get reg.objects p)) open-here).0 in
+    ap (λ b. if b then [] else onward_of reg (key_at reg p)) e1 ∙ onward-at reg p sound h
 
-no-members : (reg : Register) (p : ℕ) → IsSound reg → (o : Option Object) → slice_get reg.objects p ≡ o → is_no_group o ≡ true → members_in o ≡ []
-no-members reg p sound None e h = refl
-no-members reg p sound (Some o) e h = (sound.placed p o e).groups_alone (not-true (is_group o.kind) h)
+nothing-onward : (o : Option Object) → is_no_carrier o ≡ true → onward_in o ≡ []
+nothing-onward None h = refl
+nothing-onward (Some o) h = by_both (is_group o.kind) o.forward h
   where
-    not-true : (b : Bool) → not b ≡ true → b ≡ false
-    not-true true h = absurd (cc h)
-    not-true false h = refl
+    by_both : (b : Bool) (f : Option ℕ) → not (b || is_some f) ≡ true → (if b then o.members else forward_list f) ≡ []
+    by_both true f h = absurd (cc h)
+    by_both false None h = refl
+    by_both false (Some p) h = absurd (cc h)
 
-next-end : (reg : Register) (shut : List ℕ → Bool) (p : ℕ) → IsSound reg → p < length reg.objects → ends_at reg shut p ≡ true
+next-stop : (reg : Register) (shut : List ℕ → Bool) (p : ℕ) → IsSound reg → p < length reg.objects → stops_at reg shut p ≡ true
     → (web_of reg shut).next (key_at reg p) ≡ []
-next-end reg shut p sound h ended = by_shut (shut (key_at reg p)) refl
+next-stop reg shut p sound h ended = by_shut (shut (key_at reg p)) refl
   where
-    or-rest : (b : Bool) → (b || is_no_group (slice_get reg.objects p)) ≡ true → b ≡ false → is_no_group (slice_get reg.objects p) ≡ true
+    or-rest : (b : Bool) → (b || is_no_carrier (slice_get reg.objects p)) ≡ true → b ≡ false → is_no_carrier (slice_get reg.objects p) ≡ true
     or-rest true h e = absurd (cc e)
     or-rest false h e = h
 
     by_shut : (b : Bool) → shut (key_at reg p) ≡ b → (web_of reg shut).next (key_at reg p) ≡ []
-    by_shut true e = ap (λ b. if b then [] else members_of reg (key_at reg p)) e
+    by_shut true e = ap (λ b. if b then [] else onward_of reg (key_at reg p)) e
     by_shut false e =
-        ap (λ b. if b then [] else members_of reg (key_at reg p)) e
-        ∙ (members-at reg p sound h ∙ ap (keys_at reg) (no-members reg p sound (slice_get reg.objects p) refl (or-rest (shut (key_at reg p)) ended e)))
+        ap (λ b. if b then [] else onward_of reg (key_at reg p)) e
+        ∙ (onward-at reg p sound h ∙ ap (keys_at reg) (nothing-onward (slice_get reg.objects p) (or-rest (shut (key_at reg p)) ended e)))
 
 -- the keys that were had, behind a mark
 had-marked : (reg : Register) (marks : List Bool) (found more : List Way) (p : ℕ) → IsSound reg → p < length reg.objects
@@ -141,9 +142,9 @@ keys-here false route key k h = absurd (cc h)
 pub visited : (reg : Register) (shut : List ℕ → Bool) (whole : List Way) (roots : List (List ℕ)) (marks : List Bool) (stack : List Entered) (found : List Way) (p : ℕ)
     → IsSound reg → p < length reg.objects → length marks ≡ length reg.objects → get_or marks p false ≡ false → length stack ≤ length reg.objects
     → Faces reg shut whole roots marks stack (key_at reg p) found
-    → Holds reg shut whole roots (set marks p true) (entered (ends_at reg shut p) stack p)
+    → Holds reg shut whole roots (set marks p true) (entered (stops_at reg shut p) stack p)
     (found ++ here (ends_at reg shut p) (places_of reg stack) (key_at reg p))
-visited reg shut whole roots marks stack found p sound inside long new deep facing = by_end (ends_at reg shut p) refl
+visited reg shut whole roots marks stack found p sound inside long new deep facing = by_stop (stops_at reg shut p) refl
   where
     web : Web
     web = web_of reg shut
@@ -187,10 +188,10 @@ visited reg shut whole roots marks stack found p sound inside long new deep faci
     step3 : Holding web room whole roots (had_by reg (set marks p true) (found ++ more)) (frame key (web.next key) ∷ frames) (found ++ more)
     step3 = subst (λ f. Holding web room whole roots f (frame key (web.next key) ∷ frames) (found ++ more)) had-is step2
 
-    by_end : (b : Bool) → ends_at reg shut p ≡ b → Holds reg shut whole roots (set marks p true) (entered b stack p) (found ++ more)
-    by_end true e = holding-end web room whole roots (had_by reg (set marks p true) (found ++ more)) key frames (found ++ more) (next-end reg shut p sound inside e) step3
-    by_end false e =
-        let at : Holding web room whole roots (had_by reg (set marks p true) (found ++ more)) (frame key (keys_at reg (members_in (slice_get reg.objects p))) ∷ frames) (found ++ more)
+    by_stop : (b : Bool) → stops_at reg shut p ≡ b → Holds reg shut whole roots (set marks p true) (entered b stack p) (found ++ more)
+    by_stop true e = holding-end web room whole roots (had_by reg (set marks p true) (found ++ more)) key frames (found ++ more) (next-stop reg shut p sound inside e) step3
+    by_stop false e =
+        let at : Holding web room whole roots (had_by reg (set marks p true) (found ++ more)) (frame key (keys_at reg (onward_in (slice_get reg.objects p))) ∷ frames) (found ++ more)
         = subst (λ ms. Holding web room whole roots (had_by reg (set marks p true) (found ++ more)) (frame key ms ∷ frames) (found ++ more)) (next-open reg shut p sound inside e) step3 in
         subst (λ fs. Holding web room whole roots (had_by reg (set marks p true) (found ++ more)) fs (found ++ more)) (sym (pushed reg stack (entry p 0))) at
 
@@ -219,14 +220,14 @@ ready-visited reg marks stack p false inside new r =
       sound = r.sound;
       long = length-set marks p true ∙ r.long;
       in_range = All-append (λ e. e.place < length reg.objects) stack (entry p 0 ∷ []) r.in_range (alone inside);
-      within = All-append (λ e. e.taken ≤ length (members_in (slice_get reg.objects e.place))) stack (entry p 0 ∷ []) r.within (alone-within);
+      within = All-append (λ e. e.taken ≤ length (onward_in (slice_get reg.objects e.place))) stack (entry p 0 ∷ []) r.within (alone-within);
       deep = omega (arith, r.deep);
     }
   where
     alone : p < length reg.objects → All (λ e. e.place < length reg.objects) (entry p 0 ∷ [])
     alone h = search rules
 
-    alone-within : All (λ e. e.taken ≤ length (members_in (slice_get reg.objects e.place))) (entry p 0 ∷ [])
+    alone-within : All (λ e. e.taken ≤ length (onward_in (slice_get reg.objects e.place))) (entry p 0 ∷ [])
     alone-within = search rules
 
 owed-marked : (os : List Object) (marks : List Bool) (p : ℕ) (o : Object) → slice_get os p ≡ Some o → p < length marks → get_or marks p false ≡ false
@@ -242,8 +243,8 @@ owed-marked (x ∷ os) (m ∷ ms) (suc p) o h inside new =
 
 pub owed-visited : (reg : Register) (shut : List ℕ → Bool) (marks : List Bool) (stack : List Entered) (p : ℕ)
     → p < length reg.objects → get_or marks p false ≡ false → length marks ≡ length reg.objects
-    → all_owed reg (set marks p true) (entered (ends_at reg shut p) stack p) ≤ all_owed reg marks stack
-owed-visited reg shut marks stack p inside new long = by_end (ends_at reg shut p) refl
+    → all_owed reg (set marks p true) (entered (stops_at reg shut p) stack p) ≤ all_owed reg marks stack
+owed-visited reg shut marks stack p inside new long = by_end (stops_at reg shut p) refl
   where
     there : (o : Object) × (slice_get reg.objects p ≡ Some o)
     there = object-there reg.objects p inside
@@ -255,16 +256,16 @@ owed-visited reg shut marks stack p inside new long = by_end (ends_at reg shut p
     not-false true h = refl
     not-false false h = absurd (cc h)
 
-    group-price : (o : Object) → slice_get reg.objects p ≡ Some o → is_no_group (slice_get reg.objects p) ≡ false → price o false ≡ left_of reg (entry p 0)
-    group-price o e open-here =
-        let is : is_group o.kind ≡ true = not-false (is_group o.kind) (subst (λ x. is_no_group x ≡ false) e open-here) in
-        let size : members_in (slice_get reg.objects p) ≡ o.members = ap members_in e in
+    carrier-price : (o : Object) → slice_get reg.objects p ≡ Some o → is_no_carrier (slice_get reg.objects p) ≡ false → price o false ≡ left_of reg (entry p 0)
+    carrier-price o e open-here =
+        let is : is_carrier o ≡ true = not-false (is_carrier o) (subst (λ x. is_no_carrier x ≡ false) e open-here) in
+        let size : onward_in (slice_get reg.objects p) ≡ onward o = ap onward_in e in
         rw (is, size) (omega arith)
 
-    by_end : (b : Bool) → ends_at reg shut p ≡ b → all_owed reg (set marks p true) (entered b stack p) ≤ all_owed reg marks stack
+    by_end : (b : Bool) → stops_at reg shut p ≡ b → all_owed reg (set marks p true) (entered b stack p) ≤ all_owed reg marks stack
     by_end true e = omega (arith, paid)
     by_end false e =
-        let cost-is : price there.0 false ≡ left_of reg (entry p 0) = group-price there.0 there.1 (or-false (shut (key_at reg p)) (is_no_group (slice_get reg.objects p)) e).1 in
+        let cost-is : price there.0 false ≡ left_of reg (entry p 0) = carrier-price there.0 there.1 (or-false (shut (key_at reg p)) (is_no_carrier (slice_get reg.objects p)) e).1 in
         let more : sum_by (left_of reg) (stack ++ entry p 0 ∷ []) ≡ sum_by (left_of reg) stack + sum_by (left_of reg) (entry p 0 ∷ []) = sum_by-append (left_of reg) stack (entry p 0 ∷ []) in
         let alone : sum_by (left_of reg) (entry p 0 ∷ []) ≡ left_of reg (entry p 0) = omega arith in
         omega (arith, paid, cost-is, more, alone)
@@ -284,7 +285,7 @@ drop-none (x ∷ xs) zero h = absurd (cc h)
 drop-none (x ∷ xs) (suc k) h = drop-none xs k h
 
 abbrev pub members_at : Register → Entered → List ℕ
-members_at reg e = members_in (slice_get reg.objects e.place)
+members_at reg e = onward_in (slice_get reg.objects e.place)
 
 pub popped : (reg : Register) (shut : List ℕ → Bool) (whole : List Way) (roots : List (List ℕ)) (marks : List Bool) (front : List Entered) (e : Entered) (found : List Way)
     → slice_get (members_at reg e) e.taken ≡ None
@@ -319,23 +320,23 @@ left_out reg shut whole roots marks stack m found sound inside old h =
     facing-skip (web_of reg shut) (length reg.objects + 1) whole roots (had_by reg marks found) (frames_of reg (reverse stack)) (key_at reg m) found
     (had-at reg marks found m sound inside ∙ old) h
 
-pub taken-below : (reg : Register) (p k m : ℕ) → IsSound reg → slice_get (members_in (slice_get reg.objects p)) k ≡ Some m → k < 200000
+pub taken-below : (reg : Register) (p k m : ℕ) → IsSound reg → slice_get (onward_in (slice_get reg.objects p)) k ≡ Some m → k < 200000
 taken-below reg p k m sound h = by_object (slice_get reg.objects p) refl
   where
     by_object : (o : Option Object) → slice_get reg.objects p ≡ o → k < 200000
-    by_object None e = absurd (cc (subst (λ x. slice_get (members_in x) k ≡ Some m) e h))
+    by_object None e = absurd (cc (subst (λ x. slice_get (onward_in x) k ≡ Some m) e h))
     by_object (Some o) e =
-        let within : k < length o.members = slice_get_within o.members k m (subst (λ x. slice_get (members_in x) k ≡ Some m) e h) in
-        let few : length o.members ≤ 200000 = (sound.placed p o e).few_members in
+        let within : k < length (onward o) = slice_get_within (onward o) k m (subst (λ x. slice_get (onward_in x) k ≡ Some m) e h) in
+        let few : length (onward o) ≤ 200000 = onward-few (length reg.objects) o (sound.placed p o e) in
         omega arith
 
 -- a member is an object
-pub member-there : (reg : Register) (p k m : ℕ) → IsSound reg → slice_get (members_in (slice_get reg.objects p)) k ≡ Some m → m < length reg.objects
+pub member-there : (reg : Register) (p k m : ℕ) → IsSound reg → slice_get (onward_in (slice_get reg.objects p)) k ≡ Some m → m < length reg.objects
 member-there reg p k m sound h = by_object (slice_get reg.objects p) refl
   where
     by_object : (o : Option Object) → slice_get reg.objects p ≡ o → m < length reg.objects
-    by_object None e = absurd (cc (subst (λ x. slice_get (members_in x) k ≡ Some m) e h))
-    by_object (Some o) e = at o.members k (sound.placed p o e).members (subst (λ x. slice_get (members_in x) k ≡ Some m) e h)
+    by_object None e = absurd (cc (subst (λ x. slice_get (onward_in x) k ≡ Some m) e h))
+    by_object (Some o) e = at (onward o) k (onward-below (length reg.objects) o (sound.placed p o e)) (subst (λ x. slice_get (onward_in x) k ≡ Some m) e h)
       where
         at : (xs : List ℕ) (k : ℕ) → All (λ x. x < length reg.objects) xs → slice_get xs k ≡ Some m → m < length reg.objects
         at [] k all is = absurd (cc is)
@@ -348,7 +349,7 @@ abbrev pub InTable : Register → List Entered → Type 0
 InTable reg stack = All (λ e. e.place < length reg.objects) stack
 
 abbrev pub InMembers : Register → List Entered → Type 0
-InMembers reg stack = All (λ e. e.taken ≤ length (members_in (slice_get reg.objects e.place))) stack
+InMembers reg stack = All (λ e. e.taken ≤ length (onward_in (slice_get reg.objects e.place))) stack
 
 pub ready-popped : (reg : Register) (marks : List Bool) (front : List Entered) (e : Entered) → Ready reg marks (front ++ e ∷ []) → Ready reg marks front
 ready-popped reg marks front e r =
@@ -357,7 +358,7 @@ ready-popped reg marks front e r =
       sound = r.sound;
       long = r.long;
       in_range = (All-pop (λ e. e.place < length reg.objects) (front ++ e ∷ []) front (Some e) refl r.in_range).0;
-      within = (All-pop (λ e. e.taken ≤ length (members_in (slice_get reg.objects e.place))) (front ++ e ∷ []) front (Some e) refl r.within).0;
+      within = (All-pop (λ e. e.taken ≤ length (onward_in (slice_get reg.objects e.place))) (front ++ e ∷ []) front (Some e) refl r.within).0;
       deep = omega (arith, r.deep);
     }
 
@@ -369,13 +370,13 @@ ready-moved reg marks front e m is r =
     let below : e.taken < length (members_at reg e) = slice_get_within (members_at reg e) e.taken m is in
     let ranges : All (λ e. e.place < length reg.objects) front × (e.place < length reg.objects)
     = All-pop (λ e. e.place < length reg.objects) (front ++ e ∷ []) front (Some e) refl r.in_range in
-    let inner : All (λ e. e.taken ≤ length (members_in (slice_get reg.objects e.place))) front × (e.taken ≤ length (members_in (slice_get reg.objects e.place)))
-    = All-pop (λ e. e.taken ≤ length (members_in (slice_get reg.objects e.place))) (front ++ e ∷ []) front (Some e) refl r.within in
+    let inner : All (λ e. e.taken ≤ length (onward_in (slice_get reg.objects e.place))) front × (e.taken ≤ length (onward_in (slice_get reg.objects e.place)))
+    = All-pop (λ e. e.taken ≤ length (onward_in (slice_get reg.objects e.place))) (front ++ e ∷ []) front (Some e) refl r.within in
     record {
       sound = r.sound;
       long = r.long;
       in_range = All-push (λ e. e.place < length reg.objects) front (entry e.place (e.taken + 1)) ranges.0 ranges.1;
-      within = All-push (λ e. e.taken ≤ length (members_in (slice_get reg.objects e.place))) front (entry e.place (e.taken + 1)) inner.0 (omega arith);
+      within = All-push (λ e. e.taken ≤ length (onward_in (slice_get reg.objects e.place))) front (entry e.place (e.taken + 1)) inner.0 (omega arith);
       deep = omega (arith, r.deep);
     }
 
@@ -388,8 +389,8 @@ last-owed reg marks front e =
 pub owed-popped : (reg : Register) (marks : List Bool) (front : List Entered) (e : Entered) → Ready reg marks (front ++ e ∷ [])
     → all_owed reg marks front + 1 ≤ all_owed reg marks (front ++ e ∷ [])
 owed-popped reg marks front e r =
-    let inner : All (λ e. e.taken ≤ length (members_in (slice_get reg.objects e.place))) front × (e.taken ≤ length (members_in (slice_get reg.objects e.place)))
-    = All-pop (λ e. e.taken ≤ length (members_in (slice_get reg.objects e.place))) (front ++ e ∷ []) front (Some e) refl r.within in
+    let inner : All (λ e. e.taken ≤ length (onward_in (slice_get reg.objects e.place))) front × (e.taken ≤ length (onward_in (slice_get reg.objects e.place)))
+    = All-pop (λ e. e.taken ≤ length (onward_in (slice_get reg.objects e.place))) (front ++ e ∷ []) front (Some e) refl r.within in
     let last : all_owed reg marks (front ++ e ∷ []) ≡ all_owed reg marks front + left_of reg e = last-owed reg marks front e in
     let at_least : 1 ≤ left_of reg e = omega (arith, inner.1) in
     omega (arith, last, at_least)
@@ -448,7 +449,7 @@ stranger-holds reg shut whole roots marks found key none open-key h = by_case (i
     had = had_by reg marks found
 
     nothing : web.next key ≡ []
-    nothing = ap (λ b. if b then [] else members_of reg key) open-key ∙ ap (λ o. keys_at reg (members_in (object_at reg o))) none
+    nothing = ap (λ b. if b then [] else onward_of reg key) open-key ∙ ap (λ o. keys_at reg (onward_in (object_at reg o))) none
 
     had-is : had key ≡ among key (map (λ w. w.key) found)
     had-is = ap (marked_at marks found key) none
@@ -530,23 +531,23 @@ pub end-sum : (reg : Register) (shut : List ℕ → Bool) (whole : List Way) (ma
     → Holds reg shut whole [] marks [] found → found ≡ whole
 end-sum reg shut whole marks found h = sym (h.sum ∙ append-nil found)
 
-pub costs : CostsEntriesAndGroups
+pub costs : CostsEntriesAndCarriers
 costs [] = refl
-costs (o ∷ os) = by_kind (is_group o.kind) (costs os)
+costs (o ∷ os) = by_kind (is_carrier o) (costs os)
   where
-    by_kind : (b : Bool) → owed os (no_marks os) ≡ entries os + groups os
-        → (if b then length o.members + 1 else 0) + owed os (no_marks os) ≡ ((if b then length o.members else 0) + entries os) + ((if b then 1 else 0) + groups os)
+    by_kind : (b : Bool) → owed os (no_marks os) ≡ entries os + carriers os
+        → (if b then length (onward o) + 1 else 0) + owed os (no_marks os) ≡ ((if b then length (onward o) else 0) + entries os) + ((if b then 1 else 0) + carriers os)
     by_kind true rest = omega (arith, rest)
     by_kind false rest = omega (arith, rest)
 
-pub costs_of : (objects : List Object) → owed objects (no_marks objects) ≡ entries objects + groups objects
+pub costs_of : (objects : List Object) → owed objects (no_marks objects) ≡ entries objects + carriers objects
 costs_of objects = costs objects
 
 -- While a group is entered, a call is owed.
 pub owes-one : (reg : Register) (marks : List Bool) (stack : List Entered) → Ready reg marks stack → 0 < length stack → 1 ≤ all_owed reg marks stack
 owes-one reg marks [] ready some = absurd (omega (arith, some))
 owes-one reg marks (e ∷ es) ready some =
-    let within : e.taken ≤ length (members_in (slice_get reg.objects e.place)) = ready.within 0 e (omega arith) in
+    let within : e.taken ≤ length (onward_in (slice_get reg.objects e.place)) = ready.within 0 e (omega arith) in
     let sum : sum_by (left_of reg) (e ∷ es) ≡ sum_by (left_of reg) (e ∷ []) + sum_by (left_of reg) es = sum_by-append (left_of reg) (e ∷ []) es in
     let one : sum_by (left_of reg) (e ∷ []) ≡ 0 + left_of reg e = refl in
     omega (arith, within, sum, one)

@@ -1,3 +1,4 @@
+pub mod Before
 pub mod Expansion
 pub mod Gates
 pub mod Groups

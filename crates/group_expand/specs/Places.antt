@@ -1,36 +1,45 @@
 -- The marked walk by places: marks, a stack, and the ways found.
 use Rattle.std.specs.Prelude.{replicate, ◌≡◌, ◌<◌, ◌≤◌, ◌+◌, ◌-◌, ℕ, Bool, true, false, not, ◌||◌, if◌then◌else◌, List, [], ◌∷◌, ◌++◌, length, map, reverse, drop, Option, Some, None, slice_get, get_or, sum_by, All}
-use Rattle.org_directory.specs.Register.{Register, IsSound, key_at, keys_at, members_in, is_group, place_of, among}
+use Rattle.org_directory.specs.Register.{Register, IsSound, key_at, keys_at, is_carrier, is_end, onward, onward_in, place_of, among}
 use Rattle.group_expand.specs.Marked.{Frame, frame, Holding, Facing}
 use Rattle.org_directory.specs.declared.object.Object.{Object}
 use Rattle.group_expand.specs.declared.way.Way.{Way}
 use Rattle.group_expand.specs.declared.walk.Entered.{Entered}
 use Rattle.group_expand.specs.Routes.{web_of}
 
--- the keys of the groups on the stack, from the root down
+-- the keys of the carriers on the stack, from the root down
 abbrev pub places_of : Register → List Entered → List (List ℕ)
 places_of reg stack = map (λ e. key_at reg e.place) stack
 
--- a mailbox or a contact, or no object
-abbrev pub is_no_group : Option Object → Bool
-is_no_group None = true
-is_no_group (Some o) = not (is_group o.kind)
+-- where mail stays, or no object
+abbrev pub is_end_in : Option Object → Bool
+is_end_in None = true
+is_end_in (Some o) = is_end o
 
 -- whether a way ends at the object of this place
 abbrev pub ends_at : Register → (List ℕ → Bool) → ℕ → Bool
-ends_at reg shut p = shut (key_at reg p) || is_no_group (slice_get reg.objects p)
+ends_at reg shut p = shut (key_at reg p) || is_end_in (slice_get reg.objects p)
+
+-- neither a group nor a mailbox with a forward, or no object
+abbrev pub is_no_carrier : Option Object → Bool
+is_no_carrier None = true
+is_no_carrier (Some o) = not (is_carrier o)
+
+-- whether no way goes on from the object of this place
+abbrev pub stops_at : Register → (List ℕ → Bool) → ℕ → Bool
+stops_at reg shut p = shut (key_at reg p) || is_no_carrier (slice_get reg.objects p)
 
 abbrev pub entry : ℕ → ℕ → Entered
 entry p k = record { place = p; taken = k }
 
--- the stack with a group entered on it, unless ways end there
+-- the stack with a carrier entered on it, unless no way goes on there
 abbrev pub entered : Bool → List Entered → ℕ → List Entered
 entered true stack p = stack
 entered false stack p = stack ++ entry p 0 ∷ []
 
 -- the members that are still to be taken
 abbrev pub frame_of : Register → Entered → Frame
-frame_of reg e = frame (key_at reg e.place) (keys_at reg (drop e.taken (members_in (slice_get reg.objects e.place))))
+frame_of reg e = frame (key_at reg e.place) (keys_at reg (drop e.taken (onward_in (slice_get reg.objects e.place))))
 
 abbrev pub frames_of : Register → List Entered → List Frame
 frames_of reg es = map (frame_of reg) es
@@ -63,20 +72,20 @@ abbrev pub Faces : Register → (List ℕ → Bool) → List Way → List (List 
 Faces reg shut whole roots marks stack key found =
     Facing (web_of reg shut) (length reg.objects + 1) whole roots (had_by reg marks found) (frames_of reg (reverse stack)) key found
 
--- the calls of `member_at` that an object can still cost: for a group with no mark one for each member and one at the end
+-- the calls of `member_at` that an object can still cost: for a carrier with no mark one for each member or forward, and one at the end
 abbrev pub price : Object → Bool → ℕ
 price o true = 0
-price o false = if is_group o.kind then length o.members + 1 else 0
+price o false = if is_carrier o then length (onward o) + 1 else 0
 
--- the calls of `member_at` that groups without a mark can still cost
+-- the calls of `member_at` that carriers without a mark can still cost
 abbrev pub owed : List Object → List Bool → ℕ
 owed [] marks = 0
 owed (o ∷ os) [] = 0
 owed (o ∷ os) (m ∷ ms) = price o m + owed os ms
 
--- the calls of `member_at` that a group on the stack can still cost
+-- the calls of `member_at` that a carrier on the stack can still cost
 abbrev pub left_of : Register → Entered → ℕ
-left_of reg e = length (members_in (slice_get reg.objects e.place)) + 1 - e.taken
+left_of reg e = length (onward_in (slice_get reg.objects e.place)) + 1 - e.taken
 
 -- the calls that the walk can still make
 abbrev pub all_owed : Register → List Bool → List Entered → ℕ
@@ -87,16 +96,16 @@ pub record Ready (reg : Register) (marks : List Bool) (stack : List Entered) : T
   pub sound : IsSound reg
   pub long : length marks ≡ length reg.objects
   pub in_range : All (λ e. e.place < length reg.objects) stack
-  pub within : All (λ e. e.taken ≤ length (members_in (slice_get reg.objects e.place))) stack
+  pub within : All (λ e. e.taken ≤ length (onward_in (slice_get reg.objects e.place))) stack
   pub deep : length stack + unmarked marks ≤ length reg.objects
 
--- The last group entered gave its next member, or had none and was left.
+-- The last carrier entered gave its next member, or had none and was left.
 abbrev pub Took : Register → Option ℕ → List Entered → List Entered → Type 0
 Took reg None old left =
-    (e : Entered) × (old ≡ left ++ e ∷ []) × (slice_get (members_in (slice_get reg.objects e.place)) e.taken ≡ None)
+    (e : Entered) × (old ≡ left ++ e ∷ []) × (slice_get (onward_in (slice_get reg.objects e.place)) e.taken ≡ None)
 Took reg (Some m) old left =
     (front : List Entered) × (e : Entered) × (old ≡ front ++ e ∷ []) × (left ≡ front ++ entry e.place (e.taken + 1) ∷ [])
-    × (slice_get (members_in (slice_get reg.objects e.place)) e.taken ≡ Some m)
+    × (slice_get (onward_in (slice_get reg.objects e.place)) e.taken ≡ Some m)
 
 -- the ways found, and one to a root outside that is no object, unless it was had
 abbrev pub with_stranger : Bool → Bool → List Way → List ℕ → List Way
@@ -107,15 +116,15 @@ with_stranger false false found key = found ++ record { route = []; key = key } 
 abbrev pub no_marks : List Object → List Bool
 no_marks objects = replicate (length objects) false
 
--- the member entries of groups, and the groups
+-- the member entries and forwards, and the carriers: groups, and mailboxes that forward
 abbrev pub entries : List Object → ℕ
 entries [] = 0
-entries (o ∷ os) = (if is_group o.kind then length o.members else 0) + entries os
+entries (o ∷ os) = (if is_carrier o then length (onward o) else 0) + entries os
 
-abbrev pub groups : List Object → ℕ
-groups [] = 0
-groups (o ∷ os) = (if is_group o.kind then 1 else 0) + groups os
+abbrev pub carriers : List Object → ℕ
+carriers [] = 0
+carriers (o ∷ os) = (if is_carrier o then 1 else 0) + carriers os
 
--- With no marks yet the groups can cost a call for each of their member entries and one for each of them.
-abbrev pub CostsEntriesAndGroups : Type 0
-CostsEntriesAndGroups = (objects : List Object) → owed objects (no_marks objects) ≡ entries objects + groups objects
+-- With no marks yet the carriers can cost a call for each of their entries and one for each of them.
+abbrev pub CostsEntriesAndCarriers : Type 0
+CostsEntriesAndCarriers = (objects : List Object) → owed objects (no_marks objects) ≡ entries objects + carriers objects

@@ -1,22 +1,22 @@
 -- Which keys are ends, and the routes to them.
 use Rattle.std.specs.Prelude.{◌≡◌, ◌<◌, ◌+◌, ℕ, Bool, true, false, not, nat_lt, if◌then◌else◌, ◌||◌, List, [], ◌∷◌, ◌++◌, length, map, filter, Option, Some, None, get_or}
 use Rattle.std.specs.List.{flat_map}
-use Rattle.org_directory.specs.Register.{among, Register, key_at, is_inside, place_of, object_of, is_group, members_of}
+use Rattle.org_directory.specs.Register.{among, Register, key_at, is_end, is_inside, place_of, object_of, onward_of}
 use Rattle.group_expand.specs.Ways.{Web, ways, here, first_of_each}
 use Rattle.org_directory.specs.declared.object.Object.{Object}
 use Rattle.group_expand.specs.declared.outcome.TheConstants.{MOST_LEAVES}
 use Rattle.group_expand.specs.declared.way.Way.{Way}
 
--- an object that is no group is a leaf, and so is a key outside that is no object
+-- a contact is a leaf, a mailbox that doesn't forward or keeps, and a key outside that is no object
 abbrev pub is_leaf : Option Object → Bool → Bool
-is_leaf (Some o) inside = not (is_group o.kind)
+is_leaf (Some o) inside = is_end o
 is_leaf None inside = not inside
 
--- A way goes on through the members of what isn't closed. It ends at a leaf, or is met by a closed object.
+-- A way goes on through members and forwards of what isn't closed. It ends at a leaf, or is met by a closed object.
 abbrev pub web_of : Register → (List ℕ → Bool) → Web
 web_of reg closed = record {
   is_end = λ k. closed k || is_leaf (object_of reg k) (is_inside reg k);
-  next = λ k. if closed k then [] else members_of reg k;
+  next = λ k. if closed k then [] else onward_of reg k;
 }
 
 -- every way from a root, in order

@@ -1,7 +1,8 @@
 // What holds of expansions.
+ghost use Rattle.group_expand.specs.Before.{ExpandsAsBefore};
 ghost use Rattle.group_expand.specs.Expansion.{MoreGatesOpen};
 ghost use Rattle.group_expand.specs.Paths.{ListsEvery};
-ghost use Rattle.group_expand.specs.Places.{CostsEntriesAndGroups};
+ghost use Rattle.group_expand.specs.Places.{CostsEntriesAndCarriers};
 ghost use Rattle.group_expand.specs.Routes.{LeavesStay, ClosedStay};
 
 /// With more gates opened every leaf stays a leaf.
@@ -19,9 +20,14 @@ pub fn every_path_is_listed()
     ensures { ListsEvery }
 {}
 
-/// A walk costs a call for each member entry of a group and one for each group, at most.
-pub fn a_walk_costs_entries_and_groups()
-    ensures { CostsEntriesAndGroups }
+/// A walk costs a call for each member entry and forward, and one for each group and mailbox that forwards, at most.
+pub fn a_walk_costs_entries_and_carriers()
+    ensures { CostsEntriesAndCarriers }
+{}
+
+/// Where no mailbox forwards, the leaves are those that groups alone give, and each step of a route is a group.
+pub fn without_forwards_groups_alone_lead_on()
+    ensures { ExpandsAsBefore }
 {}
 
 /// More gates open: fewer objects are closed.

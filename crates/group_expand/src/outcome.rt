@@ -1,5 +1,5 @@
 // What an expansion gives.
-use mail_names::{Items, Key, NoMemory};
+use mail_names::{Items, Key, NoMemory, Step};
 
 /// The most leaves of an expansion.
 pub const MOST_LEAVES: usize = 2000;
@@ -9,8 +9,8 @@ pub const MOST_LEAVES: usize = 2000;
 pub struct Leaf {
     /// Its key.
     pub key: Key,
-    /// The groups of its first path, from the root down.
-    pub route: Items<Key>,
+    /// The carriers of its first path, from the root down.
+    pub route: Items<Step>,
 }
 
 /// An object that holds a message until a moderator approves it.
@@ -18,8 +18,8 @@ pub struct Leaf {
 pub struct Closed {
     /// Its key.
     pub key: Key,
-    /// The groups of the first path that meets it, from the root down.
-    pub route: Items<Key>,
+    /// The carriers of the first path that meets it, from the root down.
+    pub route: Items<Step>,
 }
 
 /// The leaves, the closed objects and the unknown roots, each once, in the order of their first paths.

@@ -1,6 +1,6 @@
 // Expansion by listing all paths, as the definition says it. It is slow, and the walk gives the same.
 ghost use Rattle.std.specs.Prelude.{◌≡◌, ◌<◌, ◌++◌, [], ◌∷◌, false, not, All, IfOk, OnOk, length, map, filter, option_copied};
-ghost use Rattle.org_directory.specs.Register.{among, key_at, keys_at};
+ghost use Rattle.org_directory.specs.Register.{among, key_at, keys_at, onward};
 ghost use Rattle.group_expand.specs.Expansion.{closed_of, expanded, is_closed, leaf_of, Gives};
 ghost use Rattle.group_expand.specs.Routes.{IsTable, all_ways, closed_met, kept, keys_of, leaves, shut_by, web_of};
 ghost use Rattle.group_expand.specs.Ways.{first_of_each, here, ways};
@@ -9,10 +9,10 @@ use crate::approval::needs_approval;
 use crate::gates::is_opened;
 use crate::outcome::{Closed, ExpandFault, Expansion, Leaf, MOST_LEAVES};
 use crate::routes::{has_key, put, unknown_roots};
-use crate::walk::is_found;
+use crate::walk::{is_end, is_found};
 use crate::way::Way;
 use mail_names::{Gate, Items, Key, NoMemory, copied_keys};
-use org_directory::{Directory, Kind};
+use org_directory::{Directory, Kind, Object};
 use std::alloc::Global;
 
 /// Whether the object at a place needs approval and its gate isn't opened.
@@ -81,7 +81,7 @@ fn may_end(directory: &Directory, table: &[bool], key: &Key) -> bool
         return true;
     }
     match directory.find(key) {
-        Some(place) => !matches!(directory.object(place).kind, Kind::Group),
+        Some(place) => is_end(directory.object(place)),
         None => !directory.is_inside(key),
     }
 }
@@ -105,19 +105,38 @@ fn add_here(
     Ok(())
 }
 
-/// The members that come next after the key.
-fn next_members<'a>(directory: &'a Directory, table: &[bool], key: &Key) -> &'a [u32]
+/// The places that mail to an object goes on to.
+fn onward(alloc: Global, object: &Object) -> Result<Items<u32>, NoMemory>
+    ensures { IfOk result (λ places. places ≡ onward object.now) }
+{
+    if matches!(object.kind, Kind::Group) {
+        return Ok(Items::from_vec(Vec::from_slice(alloc, object.members.as_slice())?));
+    }
+    let mut places = Items::new(alloc);
+    if let Some(forward) = object.forward {
+        places.push(forward)?;
+    }
+    Ok(places)
+}
+
+/// The members, or the forward, that come next after the key.
+fn next_members(
+    alloc: Global,
+    directory: &Directory,
+    table: &[bool],
+    key: &Key,
+) -> Result<Items<u32>, NoMemory>
     requires { length table.now ≡ length directory.now.objects }
-    ensures keys { keys_at directory.now result.now ≡ (web_of directory.now (shut_by directory.now table.now)).next key.now }
-    ensures range { All (λ p. p < length directory.now.objects) result.now }
+    ensures keys { IfOk result (λ places. keys_at directory.now places ≡ (web_of directory.now (shut_by directory.now table.now)).next key.now) }
+    ensures range { IfOk result (λ places. All (λ p. p < length directory.now.objects) places) }
 {
     directory.is_sound();
     if is_shut_by(directory, table, key) {
-        return &[];
+        return Ok(Items::new(alloc));
     }
     match directory.find(key) {
-        Some(place) => directory.object(place).members.as_slice(),
-        None => &[],
+        Some(place) => onward(alloc, directory.object(place)),
+        None => Ok(Items::new(alloc)),
     }
 }
 
@@ -143,7 +162,8 @@ fn add_ways(
     add_here(alloc, may_end(directory, table, key), passed, key, found)?;
     let more = longer(alloc, passed, key)?;
     let behind = more.as_slice();
-    for member in next_members(directory, table, key) {
+    let members = next_members(alloc, directory, table, key)?;
+    for member in members.as_slice() {
         let next = &directory.object(*member).key;
         add_ways(alloc, directory, table, room - 1, behind, next, found)?;
     }
@@ -212,14 +232,14 @@ fn parted(
     ways: Vec<Way>,
 ) -> Result<(Items<Leaf>, Items<Closed>), NoMemory>
     requires { length table.now ≡ length directory.now.objects }
-    ensures leaves { IfOk result (λ parts. parts.0 ≡ map leaf_of (filter (λ w. not (shut_by directory.now table.now w.key)) ways.items)) }
-    ensures closed { IfOk result (λ parts. parts.1 ≡ map closed_of (filter (λ w. shut_by directory.now table.now w.key) ways.items)) }
+    ensures leaves { IfOk result (λ parts. parts.0 ≡ map (leaf_of directory.now) (filter (λ w. not (shut_by directory.now table.now w.key)) ways.items)) }
+    ensures closed { IfOk result (λ parts. parts.1 ≡ map (closed_of directory.now) (filter (λ w. shut_by directory.now table.now w.key) ways.items)) }
 {
     let mut leaves = Items::new(alloc);
     let mut closed = Items::new(alloc);
     for way in ways {
         let is_closed = is_shut_by(directory, table, &way.key);
-        put(is_closed, way, &mut leaves, &mut closed)?;
+        put(alloc, directory, is_closed, way, &mut leaves, &mut closed)?;
     }
     Ok((leaves, closed))
 }
@@ -239,8 +259,8 @@ fn met(
     sender: Option<&Key>,
     opened: &[Gate],
 ) -> Result<(Items<Leaf>, Items<Closed>), NoMemory>
-    ensures leaves { IfOk result (λ parts. parts.0 ≡ map leaf_of (leaves directory.now (is_closed directory.now (option_copied sender.entry) opened.now) roots.now)) }
-    ensures closed { IfOk result (λ parts. parts.1 ≡ map closed_of (closed_met directory.now (is_closed directory.now (option_copied sender.entry) opened.now) roots.now)) }
+    ensures leaves { IfOk result (λ parts. parts.0 ≡ map (leaf_of directory.now) (leaves directory.now (is_closed directory.now (option_copied sender.entry) opened.now) roots.now)) }
+    ensures closed { IfOk result (λ parts. parts.1 ≡ map (closed_of directory.now) (closed_met directory.now (is_closed directory.now (option_copied sender.entry) opened.now) roots.now)) }
 {
     let table = closed_table(alloc, directory, sender, opened)?;
     let ways = first_ways(alloc, directory, table.as_slice(), roots)?;

@@ -2,28 +2,28 @@
 ghost use Rattle.std.specs.Prelude.{◌≡◌, ◌+◌, ◌-◌, ◌<◌, ◌≤◌, ◌++◌, ◌||◌, ℕ, List, false, IfOk, OnOk, All, length, slice_get, slice_set, [], ◌∷◌, get_or, map, Some, None, Bool};
 ghost use Rattle.std.specs.List.{list_any};
 ghost use Rattle.std.specs.Str.{bytes_eq};
-ghost use Rattle.org_directory.specs.Register.{among, IsSound, key_at, is_inside, place_of};
+ghost use Rattle.org_directory.specs.Register.{among, IsSound, is_carrier, is_end, key_at, is_inside, place_of};
 ghost use Rattle.group_expand.specs.Ways.{first_of_each, here};
 ghost use Rattle.group_expand.specs.declared.way.Way.{Way};
 ghost use Rattle.group_expand.specs.Routes.{all_ways};
 ghost use Rattle.group_expand.specs.Gates.{AreReady, shuts, ShutsSame};
-ghost use Rattle.group_expand.specs.Places.{places_of, is_no_group, entered, entry, all_owed, owed, no_marks, Ready, Holds, Faces, Took, with_stranger};
+ghost use Rattle.group_expand.specs.Places.{places_of, is_end_in, is_no_carrier, entered, entry, all_owed, owed, no_marks, Ready, Holds, Faces, Took, with_stranger};
 
 use crate::gates::Gates;
 use crate::way::Way;
 use mail_names::{Items, Key, NoMemory, Steps};
-use org_directory::{Directory, Kind};
+use org_directory::{Directory, Kind, Object};
 use std::alloc::Global;
 use std::sync::ledger::Ledger;
 
-/// A group that was entered, and how many of its members were taken.
+/// A carrier that was entered, and how many of its members were taken.
 #[derive(Clone, Copy)]
 pub struct Entered {
     pub place: u32,
     pub taken: u32,
 }
 
-/// The keys of the groups entered, from the root down.
+/// The keys of the carriers entered, from the root down.
 fn route(alloc: Global, directory: &Directory, stack: &[Entered]) -> Result<Items<Key>, NoMemory>
     requires { All (λ e. e.place < length directory.now.objects) stack.now }
     ensures { IfOk result (λ r. r ≡ places_of directory.now stack.now) }
@@ -45,30 +45,55 @@ fn way(alloc: Global, directory: &Directory, stack: &[Entered], place: u32) -> R
     Ok(Way { route, key })
 }
 
-fn is_end(directory: &Directory, is_closed: bool, place: u32) -> bool
-    requires { place < length directory.now.objects }
-    ensures { result ≡ (is_closed || is_no_group (slice_get directory.now.objects place)) }
+/// Whether mail stays with an object: a contact, or a mailbox that doesn't forward or keeps.
+pub fn is_end(object: &Object) -> bool
+    ensures { result ≡ is_end object.now }
 {
-    is_closed || !matches!(directory.object(place).kind, Kind::Group)
+    !matches!(object.kind, Kind::Group) && (object.forward.is_none() || object.keep)
 }
 
-/// Meets an object that wasn't met before: its way is found, or it is entered.
+fn is_carrier(object: &Object) -> bool
+    ensures { result ≡ is_carrier object.now }
+{
+    matches!(object.kind, Kind::Group) || object.forward.is_some()
+}
+
+/// Whether a way ends at the object of a place.
+fn ends(directory: &Directory, is_closed: bool, place: u32) -> bool
+    requires { place < length directory.now.objects }
+    ensures { result ≡ (is_closed || is_end_in (slice_get directory.now.objects place)) }
+{
+    is_closed || is_end(directory.object(place))
+}
+
+/// Whether no way goes on from the object of a place.
+fn stops(directory: &Directory, is_closed: bool, place: u32) -> bool
+    requires { place < length directory.now.objects }
+    ensures { result ≡ (is_closed || is_no_carrier (slice_get directory.now.objects place)) }
+{
+    is_closed || !is_carrier(directory.object(place))
+}
+
+/// Meets an object that wasn't met before: its way is found where one ends there, and it is entered where one goes on.
 fn meet(
     alloc: Global,
     directory: &Directory,
-    is_end: bool,
+    ends: bool,
+    stops: bool,
     place: u32,
     stack: &mut Vec<Entered>,
     found: &mut Items<Way>,
 ) -> Result<(), NoMemory>
     requires stack { All (λ e. e.place < length directory.now.objects) stack.old.items }
     requires place { place < length directory.now.objects }
-    ensures entered { OnOk result (stack.new.items ≡ entered is_end stack.old.items place) }
-    ensures found { OnOk result (found.new ≡ found.old ++ here is_end (places_of directory.now stack.old.items) (key_at directory.now place)) }
+    ensures entered { OnOk result (stack.new.items ≡ entered stops stack.old.items place) }
+    ensures found { OnOk result (found.new ≡ found.old ++ here ends (places_of directory.now stack.old.items) (key_at directory.now place)) }
 {
-    if is_end {
+    if ends {
         let way = way(alloc, directory, stack.as_slice(), place)?;
         found.push(way)?;
+    }
+    if stops {
         return Ok(());
     }
     stack.push(Entered { place, taken: 0 })?;
@@ -96,12 +121,13 @@ fn visit(
 {
     marks[place as usize] = true;
     let is_closed = gates.is_shut(alloc, directory, place)?;
-    let is_end = is_end(directory, is_closed, place);
-    meet(alloc, directory, is_end, place, stack, found)?;
+    let ends = ends(directory, is_closed, place);
+    let stops = stops(directory, is_closed, place);
+    meet(alloc, directory, ends, stops, place, stack, found)?;
     Ok(())
 }
 
-/// Takes the next member of the group that was entered last, or leaves that group.
+/// Takes the next member of the carrier that was entered last, or leaves that carrier.
 fn next_member<L: Ledger>(
     directory: &Directory,
     stack: &mut Vec<Entered>,
@@ -159,7 +185,7 @@ fn step<L: Ledger>(
     }
 }
 
-/// Walks until no group is entered.
+/// Walks until no carrier is entered.
 fn run<L: Ledger>(
     alloc: Global,
     directory: &Directory,

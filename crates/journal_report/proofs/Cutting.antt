@@ -1,10 +1,10 @@
 -- What stands before a byte that isn't in a text.
-use Rattle.std.proofs.Common.{◌≡◌, ℕ, suc, ◌+◌, ◌<◌, true, false, cond, List, [], ◌∷◌, ◌++◌, length, take, drop, refl, ap, ◌∙◌, sym, arith, append_assoc, append-nil}
+use Rattle.std.proofs.Common.{◌≡◌, ℕ, suc, ◌+◌, ◌<◌, true, false, cond, List, [], ◌∷◌, ◌++◌, length, take, drop, refl, ap, ◌∙◌, arith, append_assoc}
 use Rattle.std.specs.Prelude.{◌==◌, not, nat_le}
 use Rattle.std.proofs.lemmas.Bool.Decides.{nat_tests}
 use Rattle.std.proofs.Math.Seq.{take-length, drop-length, take-append_seam, drop-append_seam, drop-append-add}
 use Rattle.mail_message.specs.Lines.{crlf}
-use Rattle.journal_report.specs.Reading.{place, line_of, behind_line, before_space, from_space, behind_group}
+use Rattle.journal_report.specs.Reading.{place, line_of, behind_line, before_space, from_space}
 use Rattle.journal_report.proofs.Above.{above, parts}
 
 no_equal : (n b x : ℕ) → b < n → nat_le n x ≡ true → (x == b) ≡ false
@@ -62,10 +62,3 @@ from_space_again text rest p = ap (λ n. drop n (text ++ 32 ∷ rest)) (place_be
 pub behind_space_again : (text rest : List ℕ) → above 33 text ≡ true → drop (place 32 (text ++ 32 ∷ rest) + 1) (text ++ 32 ∷ rest) ≡ rest
 behind_space_again text rest p =
     ap (λ n. drop (n + 1) (text ++ 32 ∷ rest)) (place_behind 33 32 text rest (omega arith) p) ∙ drop-append-add text (32 ∷ rest) 1
-
-pub behind_group_end : (text : List ℕ) → above 33 text ≡ true → behind_group text ≡ []
-behind_group_end text p = ap (λ n. drop (n + 3) text) (place_none 33 32 text (omega arith) p) ∙ ap (λ (t : List ℕ). drop (length text + 3) t) (sym (append-nil text)) ∙ drop-append-add text [] 3
-
-pub behind_group_again : (text rest : List ℕ) → above 33 text ≡ true → behind_group (text ++ 32 ∷ 62 ∷ 32 ∷ rest) ≡ rest
-behind_group_again text rest p =
-    ap (λ n. drop (n + 3) (text ++ 32 ∷ 62 ∷ 32 ∷ rest)) (place_behind 33 32 text (62 ∷ 32 ∷ rest) (omega arith) p) ∙ drop-append-add text (32 ∷ 62 ∷ 32 ∷ rest) 3

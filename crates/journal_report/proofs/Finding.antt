@@ -11,7 +11,7 @@ use Rattle.mail_message.specs.Enclose.{boundary_of}
 use Rattle.journal_report.specs.declared.parts.ReportHead.{ReportHead}
 use Rattle.journal_report.specs.declared.parts.Line.{Line}
 use Rattle.journal_report.specs.Report.{report_line, to_line, sender_text, sender_line, original_id_line, original_subject_line, list_text, report_text}
-use Rattle.journal_report.specs.Reports.{is_clean, has_group, is_report, FitsHead}
+use Rattle.journal_report.specs.Reports.{is_clean, has_route, is_report, FitsHead}
 use Rattle.journal_report.specs.Reading.{place, line_at, skip, before_space, name_part, moment_part, mailbox_part, sender_part, id_part, subject_part, original_part, is_target, target_lines, TellsHead}
 use Rattle.journal_report.proofs.Above.{above-append, parts, name_above}
 use Rattle.journal_report.proofs.Cutting.{before_space_again, behind_space_again}
@@ -33,11 +33,11 @@ pub record Conditions (head : ReportHead) (lines : List Line) : Type 0 where
 
 pub conditions : (head : ReportHead) (lines : List Line) → is_report head lines ≡ true → Conditions head lines
 conditions head lines h =
-    let a = parts (nat_le head.moment 253402300799) (is_clean head.message_id && (is_clean head.subject && (nat_lt 0 (length lines) && (nat_lt (length lines) (2 ^ 32) && list_all (λ line. has_group line.why) lines)))) h in
-    let b = parts (is_clean head.message_id) (is_clean head.subject && (nat_lt 0 (length lines) && (nat_lt (length lines) (2 ^ 32) && list_all (λ line. has_group line.why) lines))) a.1 in
-    let c = parts (is_clean head.subject) (nat_lt 0 (length lines) && (nat_lt (length lines) (2 ^ 32) && list_all (λ line. has_group line.why) lines)) b.1 in
-    let d = parts (nat_lt 0 (length lines)) (nat_lt (length lines) (2 ^ 32) && list_all (λ line. has_group line.why) lines) c.1 in
-    let e = parts (nat_lt (length lines) (2 ^ 32)) (list_all (λ line. has_group line.why) lines) d.1 in
+    let a = parts (nat_le head.moment 253402300799) (is_clean head.message_id && (is_clean head.subject && (nat_lt 0 (length lines) && (nat_lt (length lines) (2 ^ 32) && list_all (λ line. has_route line.why) lines)))) h in
+    let b = parts (is_clean head.message_id) (is_clean head.subject && (nat_lt 0 (length lines) && (nat_lt (length lines) (2 ^ 32) && list_all (λ line. has_route line.why) lines))) a.1 in
+    let c = parts (is_clean head.subject) (nat_lt 0 (length lines) && (nat_lt (length lines) (2 ^ 32) && list_all (λ line. has_route line.why) lines)) b.1 in
+    let d = parts (nat_lt 0 (length lines)) (nat_lt (length lines) (2 ^ 32) && list_all (λ line. has_route line.why) lines) c.1 in
+    let e = parts (nat_lt (length lines) (2 ^ 32)) (list_all (λ line. has_route line.why) lines) d.1 in
     let moment = at_most head.moment 253402300799 a.0 in
     let count = less (length lines) (2 ^ 32) e.0 in
     record { moment = omega arith; id = b.0; subject = c.0; count = omega arith }

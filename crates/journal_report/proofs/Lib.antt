@@ -3,6 +3,7 @@ pub mod Cutting
 pub mod Finding
 pub mod Listing
 pub mod Shape
+pub mod StepTexts
 pub mod Told
 pub mod Visible
 pub mod Offered

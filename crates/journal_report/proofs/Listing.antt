@@ -1,24 +1,26 @@
 -- A report lists its targets, and bytes list one list.
-use Rattle.std.proofs.Common.{◌≡◌, ℕ, ◌^◌, ◌<◌, Bool, true, false, List, [], ◌∷◌, ◌++◌, length, drop, refl, ap, ◌∙◌, sym, subst, arith, append_assoc, append-nil, length-append}
+use Rattle.std.proofs.Common.{◌≡◌, ℕ, ◌^◌, ◌<◌, Bool, true, false, List, [], ◌∷◌, ◌++◌, drop, map, refl, ap, ◌∙◌, sym, subst, arith, append_assoc, append-nil}
 use Rattle.std.specs.Prelude.{◌==◌, decimal, slice_index_or}
-use Rattle.std.specs.List.{flat_map, AllByRecursion}
+use Rattle.std.specs.List.{AllByRecursion}
 use Rattle.std.proofs.lemmas.Bool.Decides.{nat_tests}
 use Rattle.std.proofs.lemmas.Fmt.{decimal_injective}
 use Rattle.std.proofs.lemmas.List.{take-append-drop}
 use Rattle.mail_names.specs.Key.{IsKey}
 use Rattle.mail_message.specs.Lines.{ended}
 use Rattle.mail_message.specs.Enclose.{boundary_of}
+use Rattle.mail_names.specs.Steps.{has_forward}
+use Rattle.mail_names.specs.declared.route.Step.{Step}
 use Rattle.journal_report.specs.declared.why.Why.{Why}
 use Rattle.journal_report.specs.declared.why.Why.TheVariants as whys
 use Rattle.journal_report.specs.declared.parts.Line.{Line}
 use Rattle.journal_report.specs.declared.parts.ReportHead.{ReportHead}
 use Rattle.journal_report.specs.Listed.{Names, NamesNext, Lists, OneLists, ListTogether}
-use Rattle.journal_report.specs.Why.{hop, route_text, why_text}
+use Rattle.journal_report.specs.Why.{route_text, steps_text, why_text}
 use Rattle.journal_report.specs.Report.{target_line, list_text, report_text}
 use Rattle.journal_report.specs.Reports.{is_report, FitsHead, FitsWhy, FitsLine}
-use Rattle.journal_report.specs.Reading.{place, before_space, from_space, behind_group, line_of, behind_line, skip, is_target, target_lines}
-use Rattle.journal_report.proofs.Above.{key_above, key_some}
-use Rattle.journal_report.proofs.Cutting.{before_space_end, before_space_again, behind_group_end, behind_group_again, line_again, behind_again}
+use Rattle.journal_report.specs.Reading.{place, before_space, from_space, line_of, behind_line, skip, is_target, target_lines}
+use Rattle.journal_report.proofs.StepTexts.{Keys, as_steps, as-steps-keys, as-steps-no_forward, keys-as_steps, one_steps, route-as_steps}
+use Rattle.journal_report.proofs.Cutting.{line_again, behind_again}
 use Rattle.journal_report.proofs.Finding.{found}
 use Rattle.journal_report.proofs.Shape.{behind_targets}
 use Rattle.journal_report.proofs.Told.{reads_target, reads_why, target_above, target_next}
@@ -41,24 +43,19 @@ lists head lines original fits all h =
 same_cons : {X : Type 0} (x y : X) (xs ys : List X) → x ≡ y → xs ≡ ys → (x ∷ xs) ≡ (y ∷ ys)
 same_cons {X = X} x y xs ys p q = ap (λ (z : X). z ∷ xs) p ∙ ap (λ (zs : List X). y ∷ zs) q
 
-no_route : (k : List ℕ) (keys : List (List ℕ)) → IsKey k → route_text (k ∷ keys) ≡ [] → ⊥
-no_route k keys is e =
-    let some = key_some k is in
-    let sum = length-append k (flat_map hop keys) in
-    let none : length (k ++ flat_map hop keys) ≡ 0 = ap length e in absurd (omega arith)
-
-route_first : (k : List ℕ) (keys : List (List ℕ)) → IsKey k → (before_space (route_text (k ∷ keys)) ≡ k) × (behind_group (route_text (k ∷ keys)) ≡ route_text keys)
-route_first k [] is = (ap before_space (append-nil k) ∙ before_space_end k (key_above k is), ap behind_group (append-nil k) ∙ behind_group_end k (key_above k is))
-route_first k (l ∷ keys) is = (before_space_again k (62 ∷ 32 ∷ (l ++ flat_map hop keys)) (key_above k is), behind_group_again k (l ++ flat_map hop keys) (key_above k is))
-
 one_route : (a b : List (List ℕ)) → AllByRecursion IsKey a → AllByRecursion IsKey b → route_text a ≡ route_text b → a ≡ b
-one_route [] [] p q e = refl
-one_route [] (k ∷ keys) p q e = absurd (no_route k keys q.0 (sym e))
-one_route (k ∷ keys) [] p q e = absurd (no_route k keys p.0 e)
-one_route (k ∷ keys) (l ∷ others) p q e =
-    let a = route_first k keys p.0 in
-    let b = route_first l others q.0 in
-    same_cons k l keys others (sym a.0 ∙ ap before_space e ∙ b.0) (one_route keys others p.1 q.1 (sym a.1 ∙ ap behind_group e ∙ b.1))
+one_route a b p q e =
+    sym (keys-as_steps a)
+    ∙ ap (λ (steps : List Step). map (λ (s : Step). s.key) steps)
+    (one_steps (as_steps a) (as_steps b) (as-steps-keys a p) (as-steps-keys b q) (sym (route-as_steps a) ∙ e ∙ route-as_steps b))
+    ∙ keys-as_steps b
+
+-- Groups alone are told by no forward.
+no_forward : (groups : List (List ℕ)) (steps : List Step) → AllByRecursion IsKey groups → Keys steps → has_forward steps ≡ true → route_text groups ≡ steps_text steps → ⊥
+no_forward groups steps p q forwarded e =
+    let same = one_steps (as_steps groups) steps (as-steps-keys groups p) q (sym (route-as_steps groups) ∙ e) in
+    let none : has_forward steps ≡ false = ap has_forward (sym same) ∙ as-steps-no_forward groups in
+    cc (forwarded, none)
 
 small : (n : ℕ) → n < 2 ^ 32 → n < 2 ^ 64
 small n h = omega arith
@@ -77,18 +74,27 @@ one_why whys.Direct whys.Direct p q e = refl
 one_why whys.Direct (whys.Via groups) p q e = absurd cc
 one_why whys.Direct (whys.Copied rule) p q e = absurd cc
 one_why whys.Direct (whys.Redirected rule) p q e = absurd cc
+one_why whys.Direct (whys.Through steps) p q e = absurd cc
 one_why (whys.Via groups) whys.Direct p q e = absurd cc
 one_why (whys.Via groups) (whys.Via others) p q e = ap (λ (x : List (List ℕ)). whys.Via x) (one_route groups others p q (ap (λ (x : List ℕ). drop 5 x) e))
 one_why (whys.Via groups) (whys.Copied rule) p q e = absurd (apart 118 99 refl (ap second e))
 one_why (whys.Via groups) (whys.Redirected rule) p q e = absurd (apart 118 114 refl (ap second e))
+one_why (whys.Via groups) (whys.Through steps) p q e = absurd (no_forward groups steps p q.0 q.1 (ap (λ (x : List ℕ). drop 5 x) e))
 one_why (whys.Copied rule) whys.Direct p q e = absurd cc
 one_why (whys.Copied rule) (whys.Via groups) p q e = absurd (apart 99 118 refl (ap second e))
 one_why (whys.Copied rule) (whys.Copied other) p q e = ap (λ (x : ℕ). whys.Copied x) (one_number rule other p q (ap (λ (x : List ℕ). drop 16 x) e))
 one_why (whys.Copied rule) (whys.Redirected other) p q e = absurd (apart 99 114 refl (ap second e))
+one_why (whys.Copied rule) (whys.Through steps) p q e = absurd (apart 99 118 refl (ap second e))
 one_why (whys.Redirected rule) whys.Direct p q e = absurd cc
 one_why (whys.Redirected rule) (whys.Via groups) p q e = absurd (apart 114 118 refl (ap second e))
 one_why (whys.Redirected rule) (whys.Copied other) p q e = absurd (apart 114 99 refl (ap second e))
 one_why (whys.Redirected rule) (whys.Redirected other) p q e = ap (λ (x : ℕ). whys.Redirected x) (one_number rule other p q (ap (λ (x : List ℕ). drop 20 x) e))
+one_why (whys.Redirected rule) (whys.Through steps) p q e = absurd (apart 114 118 refl (ap second e))
+one_why (whys.Through steps) whys.Direct p q e = absurd cc
+one_why (whys.Through steps) (whys.Via groups) p q e = absurd (no_forward groups steps q p.0 p.1 (ap (λ (x : List ℕ). drop 5 x) (sym e)))
+one_why (whys.Through steps) (whys.Copied rule) p q e = absurd (apart 118 99 refl (ap second e))
+one_why (whys.Through steps) (whys.Redirected rule) p q e = absurd (apart 118 114 refl (ap second e))
+one_why (whys.Through steps) (whys.Through others) p q e = ap (λ (x : List Step). whys.Through x) (one_steps steps others p.0 q.0 (ap (λ (x : List ℕ). drop 5 x) e))
 
 same_line : (a b : Line) → a.target ≡ b.target → a.why ≡ b.why → a ≡ b
 same_line a b p q =

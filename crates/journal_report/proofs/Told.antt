@@ -1,7 +1,7 @@
 -- What a reader gives, and the parts of what it is given.
 use Rattle.std.proofs.Common.{◌≡◌, ℕ, ◌+◌, ◌^◌, ◌<◌, Bool, true, false, List, [], ◌∷◌, ◌++◌, length, drop, refl, ap, ◌∙◌, sym, subst, arith, append_assoc, append-nil, Result, Err}
 use Rattle.std.specs.Prelude.{codes, decimal, ◌==◌}
-use Rattle.std.specs.List.{flat_map, AllByRecursion}
+use Rattle.std.specs.List.{AllByRecursion}
 use Rattle.std.proofs.lemmas.List.{length-drop}
 use Rattle.mail_names.specs.Key.{IsKey}
 use Rattle.mail_message.specs.Lines.{crlf, ended}
@@ -9,12 +9,13 @@ use Rattle.journal_report.specs.declared.why.Why.{Why}
 use Rattle.journal_report.specs.declared.why.Why.TheVariants as whys
 use Rattle.journal_report.specs.declared.parts.Line.{Line}
 use Rattle.journal_report.specs.declared.reading.ReportFault.{ReportFault}
-use Rattle.journal_report.specs.Why.{hop, route_text, why_text}
+use Rattle.journal_report.specs.Why.{route_text, steps_text, why_text}
 use Rattle.journal_report.specs.Report.{target_line}
 use Rattle.journal_report.specs.Reports.{FitsWhy, FitsLine, Told, IsNoMemory}
-use Rattle.journal_report.specs.Reading.{place, before_space, from_space, behind_group, line_of, behind_line, is_target, target_lines}
+use Rattle.journal_report.specs.Reading.{place, before_space, from_space, line_of, behind_line, is_target, target_lines}
 use Rattle.journal_report.proofs.Above.{above, above-append, lower_bound, decimal_above, key_above}
-use Rattle.journal_report.proofs.Cutting.{before_space_end, before_space_again, from_space_end, from_space_again, behind_group_end, behind_group_again, line_again, behind_again}
+use Rattle.journal_report.proofs.Cutting.{before_space_end, before_space_again, from_space_end, from_space_again, line_again, behind_again}
+use Rattle.journal_report.proofs.StepTexts.{as_steps, as-steps-keys, route-as_steps, steps_above}
 
 -- where there is something to give, a fault is want of memory
 pub told_err : {X : Type 0} (P : X → Type 0) (r : Result X ReportFault) (e : ReportFault) → r ≡ Err e → Told P r → IsNoMemory e
@@ -31,37 +32,6 @@ pub one_more : {X : Type 0} (all old new rest others : List X) (value first : X)
 one_more {X = X} all old new rest others value first e r n v =
     e ∙ ap (λ (x : List X). old ++ x) (r ∙ ap (λ (x : X). x ∷ others) (sym v)) ∙ sym (append_assoc old (value ∷ []) others) ∙ ap (λ (x : List X). x ++ others) (sym n)
 
--- the first group of a route that isn't empty
-pub record FirstGroup (rest : List ℕ) (keys : List (List ℕ)) : Type 0 where
-  pub first : List ℕ
-  pub others : List (List ℕ)
-  pub is : keys ≡ first ∷ others
-  pub key : IsKey first
-  pub all : AllByRecursion IsKey others
-  pub here : before_space rest ≡ first
-  pub behind : behind_group rest ≡ route_text others
-
-pub first_group : (rest : List ℕ) (keys : List (List ℕ)) → AllByRecursion IsKey keys → rest ≡ route_text keys → (rest ≡ [] → ⊥) → FirstGroup rest keys
-first_group rest [] all e some = absurd (some e)
-first_group rest (k ∷ []) all e some = record {
-  first = k;
-  others = [];
-  is = refl;
-  key = all.0;
-  all = all.1;
-  here = ap before_space (e ∙ append-nil k) ∙ before_space_end k (key_above k all.0);
-  behind = ap behind_group (e ∙ append-nil k) ∙ behind_group_end k (key_above k all.0);
-}
-first_group rest (k ∷ l ∷ keys) all e some = record {
-  first = k;
-  others = l ∷ keys;
-  is = refl;
-  key = all.0;
-  all = all.1;
-  here = ap before_space e ∙ before_space_again k (62 ∷ 32 ∷ (l ++ flat_map hop keys)) (key_above k all.0);
-  behind = ap behind_group e ∙ behind_group_again k (l ++ flat_map hop keys) (key_above k all.0);
-}
-
 -- the parts of a target's line
 pub target_text : (text : List ℕ) (line : Line) → text ≡ target_line line → drop 11 text ≡ line.target ++ why_text line.why
 unfolding target_line
@@ -72,12 +42,14 @@ target_here key whys.Direct is = ap before_space (append-nil key) ∙ before_spa
 target_here key (whys.Via groups) is = before_space_again key (codes "via " ++ route_text groups) (key_above key is)
 target_here key (whys.Copied rule) is = before_space_again key (codes "copied by rule " ++ decimal rule) (key_above key is)
 target_here key (whys.Redirected rule) is = before_space_again key (codes "redirected by rule " ++ decimal rule) (key_above key is)
+target_here key (whys.Through steps) is = before_space_again key (codes "via " ++ steps_text steps) (key_above key is)
 
 why_here : (key : List ℕ) (why : Why) → IsKey key → from_space (key ++ why_text why) ≡ why_text why
 why_here key whys.Direct is = ap from_space (append-nil key) ∙ from_space_end key (key_above key is)
 why_here key (whys.Via groups) is = from_space_again key (codes "via " ++ route_text groups) (key_above key is)
 why_here key (whys.Copied rule) is = from_space_again key (codes "copied by rule " ++ decimal rule) (key_above key is)
 why_here key (whys.Redirected rule) is = from_space_again key (codes "redirected by rule " ++ decimal rule) (key_above key is)
+why_here key (whys.Through steps) is = from_space_again key (codes "via " ++ steps_text steps) (key_above key is)
 
 pub reads_target : (text part front : List ℕ) (line : Line) → text ≡ target_line line → FitsLine line → part ≡ drop 11 text → front ≡ before_space part → front ≡ line.target
 reads_target text part front line e fits p f = f ∙ ap before_space (p ∙ target_text text line e) ∙ target_here line.target line.why fits.target
@@ -86,22 +58,16 @@ pub reads_why : (text part back : List ℕ) (line : Line) → text ≡ target_li
 reads_why text part back line e fits p b = b ∙ ap from_space (p ∙ target_text text line e) ∙ why_here line.target line.why fits.target
 
 -- no line has a control byte
-hops_above : (keys : List (List ℕ)) → AllByRecursion IsKey keys → above 32 (flat_map hop keys) ≡ true
-hops_above [] all = refl
-hops_above (k ∷ keys) all = above-append 32 (codes " > " ++ k) (flat_map hop keys) (above-append 32 (codes " > ") k refl (lower_bound k (key_above k all.0))) (hops_above keys all.1)
-
-route_above : (keys : List (List ℕ)) → AllByRecursion IsKey keys → above 32 (route_text keys) ≡ true
-route_above [] all = refl
-route_above (k ∷ keys) all = above-append 32 k (flat_map hop keys) (lower_bound k (key_above k all.0)) (hops_above keys all.1)
-
 small : (n : ℕ) → n < 2 ^ 32 → n < 2 ^ 64
 small n h = omega arith
 
 why_above : (why : Why) → FitsWhy why → above 32 (why_text why) ≡ true
 why_above whys.Direct fits = refl
-why_above (whys.Via groups) fits = above-append 32 (codes " via ") (route_text groups) refl (route_above groups fits)
+why_above (whys.Via groups) fits = above-append 32 (codes " via ") (route_text groups) refl
+    (subst (λ (t : List ℕ). above 32 t ≡ true) (sym (route-as_steps groups)) (steps_above (as_steps groups) (as-steps-keys groups fits)))
 why_above (whys.Copied rule) fits = above-append 32 (codes " copied by rule ") (decimal rule) refl (lower_bound (decimal rule) (decimal_above rule (small rule fits)))
 why_above (whys.Redirected rule) fits = above-append 32 (codes " redirected by rule ") (decimal rule) refl (lower_bound (decimal rule) (decimal_above rule (small rule fits)))
+why_above (whys.Through steps) fits = above-append 32 (codes " via ") (steps_text steps) refl (steps_above steps fits.0)
 
 pub target_above : (line : Line) → FitsLine line → above 32 (target_line line) ≡ true
 unfolding target_line

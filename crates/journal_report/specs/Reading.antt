@@ -2,6 +2,8 @@
 use Rattle.std.specs.Prelude.{◌≡◌, ℕ, zero, suc, ◌+◌, ◌-◌, ◌==◌, nat_eq, Bool, List, length, take, drop, codes, decimal}
 use Rattle.std.specs.List.{flat_map, position_or_len, starts_with}
 use Rattle.mail_names.specs.Names.{name_text}
+use Rattle.mail_names.specs.declared.route.How.{How}
+use Rattle.mail_names.specs.declared.route.How.TheVariants as hows
 use Rattle.mail_message.specs.Lines.{ended}
 use Rattle.journal_report.specs.declared.parts.ReportHead.{ReportHead}
 use Rattle.journal_report.specs.declared.parts.Line.{Line}
@@ -34,9 +36,14 @@ before_space text = take (place 32 text) text
 abbrev pub from_space : List ℕ → List ℕ
 from_space text = drop (place 32 text) text
 
--- behind the first group of a route and " > "
-abbrev pub behind_group : List ℕ → List ℕ
-behind_group route = drop (place 32 route + 3) route
+-- Behind the key of a step it is told whether a mailbox forwarded there.
+abbrev pub is_forwarded : List ℕ → Bool
+is_forwarded text = starts_with nat_eq text (codes " (forwarded)")
+
+-- what stands behind a step and " > ", from what stands behind its key
+abbrev pub behind_step : How → List ℕ → List ℕ
+behind_step hows.Expanded text = drop 3 text
+behind_step hows.Forwarded text = drop 15 text
 
 unfoldable pub name_part : List ℕ → List ℕ
 name_part bytes = before_space (drop 22 (line_at 0 bytes))

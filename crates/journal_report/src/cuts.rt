@@ -1,7 +1,9 @@
 // The parts of a report's bytes.
 ghost use Rattle.std.specs.Prelude.{◌≡◌, ◌≤◌, ◌==◌, ◌-◌, length, drop, take};
 ghost use Rattle.std.specs.List.{position_or_len};
-ghost use Rattle.journal_report.specs.Reading.{before_space, from_space, behind_group, line_of, behind_line, skip, line_at, name_part, moment_part, mailbox_part, sender_part, id_part, subject_part, original_part, is_target};
+ghost use Rattle.journal_report.specs.Reading.{before_space, from_space, behind_step, is_forwarded, line_of, behind_line, skip, line_at, name_part, moment_part, mailbox_part, sender_part, id_part, subject_part, original_part, is_target};
+
+use mail_names::How;
 
 /// The parts that its lines tell of a report's head.
 #[derive(Clone, Copy)]
@@ -52,11 +54,21 @@ pub fn from_space(text: &[u8]) -> &[u8]
     &text[place(text, b' ')..]
 }
 
-/// What stands behind the first group of a route and the mark between groups.
-pub fn behind_group(route: &[u8]) -> &[u8]
-    ensures { result.now ≡ behind_group route.now }
+/// Whether a mailbox forwarded at the step whose key stands before this.
+pub fn is_forwarded(text: &[u8]) -> bool
+    ensures { result ≡ is_forwarded text.now }
 {
-    behind(route, place(route, b' ') + 3)
+    text.starts_with(b" (forwarded)")
+}
+
+/// What stands behind a step and the mark between steps, from what stands behind the step's key.
+pub fn behind_step(how: How, text: &[u8]) -> &[u8]
+    ensures { result.now ≡ behind_step how text.now }
+{
+    match how {
+        How::Expanded => behind(text, 3),
+        How::Forwarded => behind(text, 15),
+    }
 }
 
 /// The first line.

@@ -1,5 +1,5 @@
 // Journal reports, read.
-ghost use Rattle.std.specs.Prelude.{◌≡◌, ◌<◌, ◌^◌, ◌++◌, ℕ, true, false, length, decimal, Some, IfSome, IfOk, ◌≤◌, bytes_eq, List, Option};
+ghost use Rattle.std.specs.Prelude.{◌≡◌, ◌<◌, ◌^◌, ◌++◌, ℕ, true, false, length, decimal, Some, IfSome, IfOk, ◌≤◌, ◌∷◌, bytes_eq, map, List, Option};
 ghost use Rattle.std.specs.Str.{all_ascii_digits};
 ghost use Rattle.std.specs.Str.Parse.{digits_value};
 ghost use Rattle.std.specs.Option.{SomeIff};
@@ -10,17 +10,22 @@ ghost use Rattle.mail_names.specs.declared.name.ItemName.{ItemName};
 ghost use Rattle.journal_report.specs.declared.why.Why.{Why};
 ghost use Rattle.journal_report.specs.declared.parts.Line.{Line};
 ghost use Rattle.journal_report.specs.declared.parts.ReportHead.{ReportHead};
-ghost use Rattle.journal_report.specs.Why.{route_text, why_text};
+ghost use Rattle.journal_report.specs.Why.{route_text, steps_text, why_text};
 ghost use Rattle.journal_report.specs.Report.{sender_text, target_line, report_text};
-ghost use Rattle.journal_report.specs.Reports.{is_clean, has_group, is_report, FitsHead, FitsWhy, FitsLine, Told};
-ghost use Rattle.journal_report.specs.Reading.{TellsHead, target_lines, is_target};
+ghost use Rattle.journal_report.specs.Reports.{is_clean, has_route, is_report, FitsHead, FitsWhy, FitsLine, Told};
+ghost use Rattle.journal_report.specs.Reading.{TellsHead, target_lines, is_forwarded, is_target};
+ghost use Rattle.mail_names.specs.Steps.{has_forward, is_forward};
+ghost use Rattle.mail_names.specs.declared.route.Step.{Step};
 
 use crate::cuts::{
-    before_space, behind, behind_group, behind_line, from_space, is_target, line_of, original_part,
-    parts_of, targets_part,
+    before_space, behind, behind_line, behind_step, from_space, is_forwarded, is_target, line_of,
+    original_part, parts_of, targets_part,
 };
 use crate::{Line, Report, ReportHead, Why, report};
-use mail_names::{Bytes, ItemName, Items, Key, LAST_MOMENT, NameFault, NoMemory};
+use mail_names::{
+    Bytes, How, ItemName, Items, Key, LAST_MOMENT, NameFault, NoMemory, Step, has_forward,
+    keys_of_steps,
+};
 use std::alloc::Global;
 
 /// Why bytes aren't given as a report.
@@ -110,27 +115,77 @@ fn rule(text: &[u8]) -> Result<u32, ReportFault>
     }
 }
 
-// The groups of a route.
-fn groups(alloc: Global, text: &[u8]) -> Result<Items<Key>, ReportFault>
-    ensures { (keys : List (List ℕ)) → AllByRecursion IsKey keys → text.now ≡ route_text keys → Told (λ g. g ≡ keys) result }
+#[derive(Drop)]
+struct FirstStep<'a> {
+    step: Step,
+    rest: &'a [u8],
+}
+
+fn how(behind_key: &[u8]) -> How
+    ensures { is_forward result ≡ is_forwarded behind_key.now }
 {
-    let mut groups = Items::new(alloc);
+    if is_forwarded(behind_key) {
+        How::Forwarded
+    } else {
+        How::Expanded
+    }
+}
+
+// The first step of a route, and the route of those behind it.
+fn first_step(alloc: Global, route: &[u8]) -> Result<FirstStep<'_>, ReportFault>
+    requires { 0 < length route.now }
+    ensures told { (step : Step) (others : List Step) → IsKey step.key → route.now ≡ steps_text (step ∷ others) →
+        Told (λ f. (f.step ≡ step) × (f.rest.now ≡ steps_text others)) result }
+    ensures shorter { IfOk result (λ f. length f.rest.now < length route.now) }
+{
+    let behind_key = from_space(route);
+    let how = how(behind_key);
+    match key(alloc, before_space(route)) {
+        Ok(key) => Ok(FirstStep {
+            step: Step { key, how },
+            rest: behind_step(how, behind_key),
+        }),
+        Err(fault) => Err(fault),
+    }
+}
+
+// The steps of a route.
+fn steps(alloc: Global, text: &[u8]) -> Result<Items<Step>, ReportFault>
+    ensures { (steps : List Step) → AllByRecursion (λ s. IsKey s.key) steps → text.now ≡ steps_text steps → Told (λ g. g ≡ steps) result }
+{
+    let mut steps = Items::new(alloc);
     let mut rest = text;
-    'groups: while !rest.is_empty() {
-        match key(alloc, before_space(rest)) {
-            Ok(group) => groups.push(group)?,
+    'steps: while !rest.is_empty() {
+        match first_step(alloc, rest) {
+            Ok(FirstStep { step, rest: behind }) => {
+                steps.push(step)?;
+                rest = behind;
+            }
             Err(fault) => return Err(fault),
         }
-        rest = behind_group(rest);
     }
-    Ok(groups)
+    Ok(steps)
+}
+
+// A route of steps, where one was forwarded, and else of groups.
+fn routed(alloc: Global, steps: Items<Step>) -> Result<Why, NoMemory>
+    ensures through { has_forward steps ≡ true → IfOk result (λ w. w ≡ Why.Through steps) }
+    ensures via { has_forward steps ≡ false → IfOk result (λ w. w ≡ Why.Via (map (λ s. s.key) steps)) }
+{
+    if has_forward(steps.as_slice()) {
+        return Ok(Why::Through { steps });
+    }
+    let groups = keys_of_steps(alloc, steps.as_slice())?;
+    Ok(Why::Via { groups })
 }
 
 fn via(alloc: Global, text: &[u8]) -> Result<Why, ReportFault>
-    ensures { (keys : List (List ℕ)) → AllByRecursion IsKey keys → text.now ≡ route_text keys → Told (λ w. w ≡ Why.Via keys) result }
+    ensures groups { (keys : List (List ℕ)) → AllByRecursion IsKey keys → text.now ≡ route_text keys → Told (λ w. w ≡ Why.Via keys) result }
+    ensures steps { (steps : List Step) → AllByRecursion (λ s. IsKey s.key) steps → has_forward steps ≡ true → text.now ≡ steps_text steps →
+        Told (λ w. w ≡ Why.Through steps) result }
 {
-    match groups(alloc, text) {
-        Ok(groups) => Ok(Why::Via { groups }),
+    match steps(alloc, text) {
+        Ok(steps) => Ok(routed(alloc, steps)?),
         Err(fault) => Err(fault),
     }
 }
@@ -265,20 +320,21 @@ fn is_clean(text: &[u8]) -> bool
     text.iter().all(|b| *b >= 32 && *b != 127)
 }
 
-fn has_group(why: &Why) -> bool
-    ensures { result ≡ has_group why.now }
+fn has_route(why: &Why) -> bool
+    ensures { result ≡ has_route why.now }
 {
     match why {
         Why::Via { groups } => !groups.as_slice().is_empty(),
+        Why::Through { steps } => has_forward(steps.as_slice()),
         _ => true,
     }
 }
 
-fn all_have_group(lines: &[Line]) -> bool
-    ensures { result ≡ list_all (λ line. has_group line.why) lines.now }
+fn all_have_routes(lines: &[Line]) -> bool
+    ensures { result ≡ list_all (λ line. has_route line.why) lines.now }
 {
     for line in lines {
-        if !has_group(&line.why) {
+        if !has_route(&line.why) {
             return false;
         }
     }
@@ -295,7 +351,7 @@ fn is_report(report: &Report) -> bool
         && is_clean(head.subject.as_slice())
         && !lines.is_empty()
         && lines.len() < 4_294_967_296
-        && all_have_group(lines)
+        && all_have_routes(lines)
 }
 
 // Whether the bytes are those of the report.
@@ -315,7 +371,7 @@ fn is_text(alloc: Global, candidate: &Report, bytes: &[u8]) -> Result<bool, NoMe
 /// The report that these bytes are, if they are one's.
 ///
 /// A report has 1 to 2^32 - 1 targets, a moment by the last one, an id and a subject without control bytes, and a
-/// group wherever a target is a member of one.
+/// group wherever a target is a member of one. Where a mailbox forwarded it, the steps of its route say which.
 pub fn read_report(alloc: Global, bytes: &[u8]) -> Result<Report, ReportFault>
     ensures ok { IfOk result (λ r. (is_report r.head r.lines ≡ true) × (bytes.now ≡ report_text r.head r.lines r.original)) }
     ensures only { (head : ReportHead) (lines : List Line) (original : List ℕ) → FitsHead head → AllByRecursion FitsLine lines →

@@ -1,9 +1,9 @@
 // Why a message goes to a target.
-ghost use Rattle.std.specs.Prelude.{◌≡◌, ◌++◌, IfOk, OnOk, OnErr};
+ghost use Rattle.std.specs.Prelude.{◌≡◌, ◌++◌, IfOk, OnOk, OnErr, codes};
 ghost use Rattle.std.specs.List.{flat_map};
-ghost use Rattle.journal_report.specs.Why.{hop, route_text, why_text};
+ghost use Rattle.journal_report.specs.Why.{hop, how_text, route_text, step_hop, step_text, steps_text, why_text};
 
-use mail_names::{Bytes, Items, Key, NoMemory, copied_keys};
+use mail_names::{Bytes, How, Items, Key, NoMemory, Step, copied_keys, copied_steps};
 use std::alloc::Global;
 
 /// Why a message goes to a target.
@@ -18,6 +18,15 @@ pub enum Why {
     Copied { rule: u32 },
     /// The rule at this place, counted from 0, sends it the message in place of another target.
     Redirected { rule: u32 },
+    /// By these steps, from what the envelope names down: groups, and at least one mailbox that forwards.
+    Through { steps: Items<Step> },
+}
+
+// Adds what stands between the keys of a route.
+fn put_mark(into: &mut Bytes) -> Result<(), NoMemory>
+    ensures { OnOk result (into.new ≡ into.old ++ codes " > ") }
+{
+    into.add(b" > ")
 }
 
 // Adds each key behind " > ".
@@ -25,7 +34,7 @@ fn put_hops(into: &mut Bytes, keys: &[Key]) -> Result<(), NoMemory>
     ensures { OnOk result (into.new ≡ into.old ++ flat_map hop keys.now) }
 {
     for key in keys {
-        into.add(b" > ")?;
+        put_mark(into)?;
         into.add(key.bytes())?;
     }
     Ok(())
@@ -43,6 +52,45 @@ fn put_route(into: &mut Bytes, groups: &[Key]) -> Result<(), NoMemory>
     }
 }
 
+fn put_how(into: &mut Bytes, how: How) -> Result<(), NoMemory>
+    ensures { OnOk result (into.new ≡ into.old ++ how_text how) }
+{
+    match how {
+        How::Expanded => Ok(()),
+        How::Forwarded => into.add(b" (forwarded)"),
+    }
+}
+
+fn put_step(into: &mut Bytes, step: &Step) -> Result<(), NoMemory>
+    ensures { OnOk result (into.new ≡ into.old ++ step_text step.now) }
+{
+    into.add(step.key.bytes())?;
+    put_how(into, step.how)
+}
+
+// Adds each step behind " > ".
+fn put_step_hops(into: &mut Bytes, steps: &[Step]) -> Result<(), NoMemory>
+    ensures { OnOk result (into.new ≡ into.old ++ flat_map step_hop steps.now) }
+{
+    for step in steps {
+        put_mark(into)?;
+        put_step(into, step)?;
+    }
+    Ok(())
+}
+
+fn put_steps(into: &mut Bytes, steps: &[Step]) -> Result<(), NoMemory>
+    ensures { OnOk result (into.new ≡ into.old ++ steps_text steps.now) }
+{
+    match steps {
+        [] => Ok(()),
+        [first, rest @ ..] => {
+            put_step(into, first)?;
+            put_step_hops(into, rest)
+        }
+    }
+}
+
 impl Why {
     /// The same once more.
     pub fn copy(&self, alloc: Global) -> Result<Why, NoMemory>
@@ -55,11 +103,15 @@ impl Why {
             }),
             Why::Copied { rule } => Ok(Why::Copied { rule: *rule }),
             Why::Redirected { rule } => Ok(Why::Redirected { rule: *rule }),
+            Why::Through { steps } => Ok(Why::Through {
+                steps: copied_steps(alloc, steps.as_slice())?,
+            }),
         }
     }
 
     /// The text that says so right behind a key: nothing, ` via K > K` with the groups from the root,
-    /// ` copied by rule I` or ` redirected by rule I`.
+    /// ` copied by rule I` or ` redirected by rule I`; or ` via K > K` with the keys of the steps, where ` (forwarded)`
+    /// stands behind each that a mailbox forwarded.
     pub fn text(&self, alloc: Global) -> Result<Bytes, NoMemory>
         ensures { IfOk result (λ text. text ≡ why_text self.now) }
     {
@@ -77,6 +129,11 @@ impl Why {
             Why::Redirected { rule } => {
                 let text = format!(in alloc; " redirected by rule {rule}")?;
                 Bytes::of(alloc, text.as_bytes())
+            }
+            Why::Through { steps } => {
+                let mut text = Bytes::of(alloc, b" via ")?;
+                put_steps(&mut text, steps.as_slice())?;
+                Ok(text)
             }
         }
     }

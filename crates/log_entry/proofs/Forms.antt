@@ -15,9 +15,9 @@ use Rattle.mail_names.specs.declared.name.Mark.{Mark}
 use Rattle.mail_names.specs.declared.name.Mark.TheVariants as marks
 use Rattle.journal_report.specs.declared.why.Why.{Why}
 use Rattle.journal_report.specs.declared.why.Why.TheVariants as whys
-use Rattle.log_entry.specs.EntryText.{le32, le64, form_bytes, form_key_option, form_all, form_mark, form_name, form_approval, form_kind, form_why, form_gate, form_item, form_tell, form_hold, form_end, form_release, form_origin, form_submission, form_verdict, entry_text}
+use Rattle.log_entry.specs.EntryText.{le32, le64, form_bytes, form_key_option, form_all, form_mark, form_name, form_approval, form_kind, form_how, form_step, form_why, form_gate, form_item, form_tell, form_hold, form_end, form_release, form_origin, form_submission, form_verdict, entry_text}
 use Rattle.mail_submission.specs.Fits.{IsU32, IsU64, IsBytes, IsKeyOption, IsListOf, IsOrigin, IsSubmission}
-use Rattle.mail_plan.specs.Fits.{IsName, IsWhy, IsGate, IsItem, IsHold, IsEnd, IsRelease}
+use Rattle.mail_plan.specs.Fits.{IsName, IsStep, IsWhy, IsGate, IsItem, IsHold, IsEnd, IsRelease}
 use Rattle.log_entry.specs.Entries.{IsEntry}
 use Rattle.log_entry.specs.Reading.{OneForm}
 use Rattle.mail_submission.specs.Submission.{Submitted}
@@ -32,6 +32,9 @@ use Rattle.mail_plan.specs.declared.release.End.TheVariants as ends
 use Rattle.mail_plan.specs.declared.release.Release.{Release}
 use Rattle.moderation.specs.declared.tell.Tell.{Tell}
 use Rattle.moderation.specs.declared.tell.Tell.TheVariants as tells
+use Rattle.mail_names.specs.declared.route.How.{How}
+use Rattle.mail_names.specs.declared.route.How.TheVariants as hows
+use Rattle.mail_names.specs.declared.route.Step.{Step}
 use Rattle.mail_names.specs.declared.gate.Gate.{Gate}
 use Rattle.mail_names.specs.declared.gate.Gate.TheVariants as gates
 use Rattle.log_entry.specs.declared.entry.Entry.TheVariants as entries
@@ -220,6 +223,23 @@ one_kind a b more rest here there is = (
   sym (kind_behind a more) ∙ ap (λ (l : List ℕ). drop 1 l) is ∙ kind_behind b rest,
 )
 
+abbrev pub IsHow : How → Type 0
+IsHow h = ⊤
+
+pub one_how : OneForm IsHow form_how
+one_how hows.Expanded hows.Expanded more rest here there is = (refl, ap (λ (l : List ℕ). drop 1 l) is)
+one_how hows.Forwarded hows.Forwarded more rest here there is = (refl, ap (λ (l : List ℕ). drop 1 l) is)
+one_how hows.Expanded hows.Forwarded more rest here there is = absurd (cc is)
+one_how hows.Forwarded hows.Expanded more rest here there is = absurd (cc is)
+
+pub one_step : OneForm IsStep form_step
+one_step a b more rest here there is =
+    let p = parts IsKey form_bytes one_key a.key b.key _ _ more rest here there is in
+    let q = one_how a.how b.how more rest tt tt p.1 in (
+      ap (λ (k : List ℕ). let s : Step = record { key = k; how = a.how } in s) p.0 ∙ ap (λ (h : How). let s : Step = record { key = b.key; how = h } in s) q.0,
+      q.1,
+    )
+
 pub one_why : OneForm IsWhy form_why
 one_why whys.Direct whys.Direct more rest here there is = (refl, ap (λ (l : List ℕ). drop 1 l) is)
 one_why (whys.Via a) (whys.Via b) more rest here there is =
@@ -231,6 +251,17 @@ one_why (whys.Copied a) (whys.Copied b) more rest here there is =
 one_why (whys.Redirected a) (whys.Redirected b) more rest here there is =
     let p = one_le32 a b more rest here there (ap (λ (l : List ℕ). drop 1 l) is) in
     (ap (λ (n : ℕ). whys.Redirected n) p.0, p.1)
+one_why (whys.Through a) (whys.Through b) more rest here there is =
+    let p = one_list IsStep form_step one_step a b more rest here there (ap (λ (l : List ℕ). drop 1 l) is) in
+    (ap (λ (k : List Step). whys.Through k) p.0, p.1)
+one_why whys.Direct (whys.Through b) more rest here there is = absurd (cc is)
+one_why (whys.Via a) (whys.Through b) more rest here there is = absurd (cc is)
+one_why (whys.Copied a) (whys.Through b) more rest here there is = absurd (cc is)
+one_why (whys.Redirected a) (whys.Through b) more rest here there is = absurd (cc is)
+one_why (whys.Through a) whys.Direct more rest here there is = absurd (cc is)
+one_why (whys.Through a) (whys.Via b) more rest here there is = absurd (cc is)
+one_why (whys.Through a) (whys.Copied b) more rest here there is = absurd (cc is)
+one_why (whys.Through a) (whys.Redirected b) more rest here there is = absurd (cc is)
 one_why whys.Direct (whys.Via b) more rest here there is = absurd (cc is)
 one_why whys.Direct (whys.Copied b) more rest here there is = absurd (cc is)
 one_why whys.Direct (whys.Redirected b) more rest here there is = absurd (cc is)

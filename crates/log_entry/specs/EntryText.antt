@@ -2,6 +2,9 @@
 use Rattle.std.specs.Prelude.{ℕ, List, [], ◌∷◌, ◌++◌, length, flat_map, Option, Some, None}
 use Rattle.std.specs.Int.{to_le_bytes, w32, w64}
 use Rattle.mail_names.specs.declared.gate.Gate.{Gate}
+use Rattle.mail_names.specs.declared.route.How.{How}
+use Rattle.mail_names.specs.declared.route.How.TheVariants as hows
+use Rattle.mail_names.specs.declared.route.Step.{Step}
 use Rattle.mail_names.specs.declared.gate.Gate.TheVariants as gates
 use Rattle.mail_names.specs.declared.name.ApprovalName.{ApprovalName}
 use Rattle.mail_names.specs.declared.name.ItemName.{ItemName}
@@ -70,12 +73,21 @@ form_kind kinds.Report = 1 ∷ []
 form_kind kinds.Request = 2 ∷ []
 form_kind kinds.Notice = 3 ∷ []
 
--- why: 0, 1 and the groups, or 2 or 3 and u32 rule
+abbrev pub form_how : How → List ℕ
+form_how hows.Expanded = 0 ∷ []
+form_how hows.Forwarded = 1 ∷ []
+
+-- a step: its key, and 0 for a group or 1 for a mailbox that forwards
+abbrev pub form_step : Step → List ℕ
+form_step step = form_bytes step.key ++ form_how step.how
+
+-- why: 0, 1 and the groups, 2 or 3 and u32 rule, or 4 and the steps
 abbrev pub form_why : Why → List ℕ
 form_why whys.Direct = 0 ∷ []
 form_why (whys.Via groups) = 1 ∷ form_all form_bytes groups
 form_why (whys.Copied rule) = 2 ∷ le32 rule
 form_why (whys.Redirected rule) = 3 ∷ le32 rule
+form_why (whys.Through steps) = 4 ∷ form_all form_step steps
 
 -- an item: its name, its folder, its kind, its why, u32 text
 abbrev pub form_item : Item → List ℕ

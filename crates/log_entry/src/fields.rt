@@ -3,15 +3,15 @@ ghost use Rattle.std.specs.Prelude.{◌≡◌, ⊤, ℕ, ◌≤◌, List, length
 ghost use Rattle.std.specs.List.{AllByRecursion};
 ghost use Rattle.mail_names.specs.Key.{IsKey};
 ghost use Rattle.mail_names.specs.Names.{IsApprovalName};
-ghost use Rattle.log_entry.specs.EntryText.{form_bytes, form_key_option, form_all, form_mark, form_name, form_approval, form_gate, form_kind, form_why, form_item, form_release, form_origin, form_submission, form_verdict};
+ghost use Rattle.log_entry.specs.EntryText.{form_bytes, form_key_option, form_all, form_mark, form_name, form_approval, form_gate, form_kind, form_how, form_step, form_why, form_item, form_release, form_origin, form_submission, form_verdict};
 ghost use Rattle.mail_submission.specs.Fits.{IsBytes, IsKeyOption, IsListOf, IsOrigin, IsSubmission};
-ghost use Rattle.mail_plan.specs.Fits.{IsName, IsGate, IsWhy, IsItem, IsRelease};
+ghost use Rattle.mail_plan.specs.Fits.{IsName, IsGate, IsStep, IsWhy, IsItem, IsRelease};
 ghost use Rattle.log_entry.specs.Reading.{Reads, OneForm};
 ghost use Rattle.mail_submission.specs.Submission.{Submitted, submission_of};
 
 use crate::places::{Miss, byte_at, slice_at, u32_at, u64_at};
 use journal_report::Why;
-use mail_names::{ApprovalName, Bytes, Gate, ItemName, Items, Key, Mark, NameFault};
+use mail_names::{ApprovalName, Bytes, Gate, How, ItemName, Items, Key, Mark, NameFault, Step};
 use mail_plan::{Item, ItemKind, Release};
 use mail_submission::{Origin, Submission, SubmissionFault};
 use moderation::Verdict;
@@ -174,6 +174,25 @@ fn kind_at(bytes: &[u8], at: usize) -> Result<(ItemKind, usize), Miss>
     }
 }
 
+fn how_at(bytes: &[u8], at: usize) -> Result<(How, usize), Miss>
+    ensures { Reads (λ h. ⊤) form_how bytes.now at result }
+{
+    let (number, end) = byte_at(bytes, at)?;
+    match number {
+        0 => Ok((How::Expanded, end)),
+        1 => Ok((How::Forwarded, end)),
+        _ => Err(Miss::NoForm),
+    }
+}
+
+fn step_at(alloc: Global, bytes: &[u8], at: usize) -> Result<(Step, usize), Miss>
+    ensures { Reads IsStep form_step bytes.now at result }
+{
+    let (key, at_how) = key_at(alloc, bytes, at)?;
+    let (how, end) = how_at(bytes, at_how)?;
+    Ok((Step { key, how }, end))
+}
+
 pub fn why_at(alloc: Global, bytes: &[u8], at: usize) -> Result<(Why, usize), Miss>
     ensures { Reads IsWhy form_why bytes.now at result }
 {
@@ -191,6 +210,10 @@ pub fn why_at(alloc: Global, bytes: &[u8], at: usize) -> Result<(Why, usize), Mi
         3 => {
             let (rule, end) = u32_at(bytes, start)?;
             Ok((Why::Redirected { rule }, end))
+        }
+        4 => {
+            let (steps, end) = list_at(alloc, bytes, start)?;
+            Ok((Why::Through { steps }, end))
         }
         _ => Err(Miss::NoForm),
     }
@@ -237,6 +260,19 @@ impl Field for Key {
 
     fn read_at(alloc: Global, bytes: &[u8], at: usize) -> Result<(Key, usize), Miss> {
         key_at(alloc, bytes, at)
+    }
+}
+
+impl Field for Step {
+    ghost use Rattle.log_entry.specs.EntryText.{form_step};
+    ghost use Rattle.mail_plan.specs.Fits.{IsStep};
+
+    ghost is = { IsStep };
+
+    ghost form = { form_step };
+
+    fn read_at(alloc: Global, bytes: &[u8], at: usize) -> Result<(Step, usize), Miss> {
+        step_at(alloc, bytes, at)
     }
 }
 

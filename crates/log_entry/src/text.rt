@@ -3,13 +3,13 @@ ghost use Rattle.std.specs.Prelude.{◌≡◌, ◌++◌, OnOk, IfOk, option_copi
 ghost use Rattle.mail_names.specs.Key.{IsKey};
 ghost use Rattle.mail_names.specs.Names.{IsApprovalName};
 ghost use Rattle.mail_submission.specs.Fits.{IsU32, IsBytes, IsKeyOption, IsListOf, IsOrigin, IsSubmission};
-ghost use Rattle.mail_plan.specs.Fits.{IsName, IsGate, IsWhy, IsItem, IsHold, IsEnd, IsRelease};
+ghost use Rattle.mail_plan.specs.Fits.{IsName, IsGate, IsStep, IsWhy, IsItem, IsHold, IsEnd, IsRelease};
 ghost use Rattle.log_entry.specs.Entries.{IsDecided, IsEntry};
-ghost use Rattle.log_entry.specs.EntryText.{le32, le64, form_bytes, form_key_option, form_all, form_mark, form_name, form_approval, form_gate, form_kind, form_why, form_item, form_tell, form_hold, form_end, form_release, form_origin, form_submission, form_verdict, form_decided, entry_text};
+ghost use Rattle.log_entry.specs.EntryText.{le32, le64, form_bytes, form_key_option, form_all, form_mark, form_name, form_approval, form_gate, form_kind, form_how, form_step, form_why, form_item, form_tell, form_hold, form_end, form_release, form_origin, form_submission, form_verdict, form_decided, entry_text};
 
 use crate::Entry;
 use journal_report::Why;
-use mail_names::{ApprovalName, Bytes, Gate, ItemName, Key, Mark, NoMemory};
+use mail_names::{ApprovalName, Bytes, Gate, How, ItemName, Key, Mark, NoMemory, Step};
 use mail_plan::{End, Hold, Item, ItemKind, Release};
 use mail_submission::{Origin, Submission};
 use moderation::{Tell, Verdict};
@@ -162,8 +162,36 @@ fn put_kind(into: &mut Bytes, value: ItemKind) -> Result<(), NoMemory>
     }
 }
 
-/// Appends 0 where the envelope names the target, 1 and the groups, or 2 or 3 and the place of the rule that
-/// copies or redirects.
+fn put_how(into: &mut Bytes, value: How) -> Result<(), NoMemory>
+    ensures { OnOk result (into.new ≡ into.old ++ form_how value) }
+{
+    match value {
+        How::Expanded => into.add(&[0]),
+        How::Forwarded => into.add(&[1]),
+    }
+}
+
+fn put_step(into: &mut Bytes, value: &Step) -> Result<(), NoMemory>
+    ensures text { OnOk result (into.new ≡ into.old ++ form_step value.now) }
+    ensures fits { OnOk result (IsStep value.now) }
+{
+    put_key(into, &value.key)?;
+    put_how(into, value.how)
+}
+
+fn put_steps(into: &mut Bytes, values: &[Step]) -> Result<(), NoMemory>
+    ensures text { OnOk result (into.new ≡ into.old ++ form_all form_step values.now) }
+    ensures fits { OnOk result (IsListOf IsStep values.now) }
+{
+    put_count(into, values.len())?;
+    for value in values {
+        put_step(into, value)?;
+    }
+    Ok(())
+}
+
+/// Appends 0 where the envelope names the target, 1 and the groups, 2 or 3 and the place of the rule that copies or
+/// redirects, or 4 and the steps.
 pub fn put_why(into: &mut Bytes, value: &Why) -> Result<(), NoMemory>
     ensures text { OnOk result (into.new ≡ into.old ++ form_why value.now) }
     ensures fits { OnOk result (IsWhy value.now) }
@@ -181,6 +209,10 @@ pub fn put_why(into: &mut Bytes, value: &Why) -> Result<(), NoMemory>
         Why::Redirected { rule } => {
             into.add(&[3])?;
             put_u32(into, *rule)
+        }
+        Why::Through { steps } => {
+            into.add(&[4])?;
+            put_steps(into, steps.as_slice())
         }
     }
 }

@@ -3,3 +3,4 @@ pub mod Gates
 pub mod Key
 pub mod Lines
 pub mod Names
+pub mod Steps

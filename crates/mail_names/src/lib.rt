@@ -10,6 +10,7 @@ mod items;
 mod key;
 pub mod laws;
 mod name;
+mod route;
 mod steps;
 
 pub use bytes::{Bytes, NoMemory};
@@ -19,4 +20,5 @@ pub use gate::{Gate, copied_gate, same_gate};
 pub use items::Items;
 pub use key::{Key, NameFault, copied_keys, lowered};
 pub use name::{ApprovalName, ItemName, Mark, mark_number, same_name};
+pub use route::{How, Step, copied_steps, has_forward, keys_of_steps};
 pub use steps::Steps;

@@ -4,6 +4,7 @@ use Rattle.mail_names.specs.Key.{IsKey}
 use Rattle.mail_names.specs.declared.gate.Gate.{Gate}
 use Rattle.mail_names.specs.declared.gate.Gate.TheVariants as gates
 use Rattle.mail_names.specs.declared.name.ItemName.{ItemName}
+use Rattle.mail_names.specs.declared.route.Step.{Step}
 use Rattle.journal_report.specs.declared.why.Why.{Why}
 use Rattle.journal_report.specs.declared.why.Why.TheVariants as whys
 use Rattle.mail_plan.specs.declared.release.Item.{Item}
@@ -22,11 +23,15 @@ abbrev pub IsGate : Gate → Type 0
 IsGate (gates.Object key) = IsKey key
 IsGate (gates.Rule place) = IsU32 place
 
+abbrev pub IsStep : Step → Type 0
+IsStep step = IsKey step.key
+
 abbrev pub IsWhy : Why → Type 0
 IsWhy whys.Direct = ⊤
 IsWhy (whys.Via groups) = IsListOf IsKey groups
 IsWhy (whys.Copied rule) = IsU32 rule
 IsWhy (whys.Redirected rule) = IsU32 rule
+IsWhy (whys.Through steps) = IsListOf IsStep steps
 
 pub record IsItem (item : Item) : Type 0 where
   pub name : IsName item.name

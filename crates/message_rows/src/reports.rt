@@ -4,10 +4,11 @@ use crate::row::{Fault, Row, cut, item_name, moment, small};
 use journal_report::{
     Line, Report, ReportFault, ReportHead, Why, add_why_text, read_report, report,
 };
-use mail_names::{Bytes, Items, Key, LAST_MOMENT};
+use mail_names::{Bytes, How, Items, Key, LAST_MOMENT, Step};
 use std::alloc::Global;
 
-/// The reason that a text writes: nothing, `via KEY KEY ..`, `copied RULE` or `redirected RULE`.
+/// The reason that a text writes: nothing, `via KEY KEY ..`, `copied RULE`, `redirected RULE`, or `through STEP STEP ..`, where
+/// a step is the key of a group, or `>` and the key of a mailbox that forwards.
 pub fn read_why(alloc: Global, text: &[u8]) -> Result<Why, Fault> {
     let (kind, rest) = cut(text);
     match kind {
@@ -15,6 +16,7 @@ pub fn read_why(alloc: Global, text: &[u8]) -> Result<Why, Fault> {
         b"via" => via(alloc, rest),
         b"copied" => Ok(Why::Copied { rule: small(rest) }),
         b"redirected" => Ok(Why::Redirected { rule: small(rest) }),
+        b"through" => through(alloc, rest),
         _ => Err(Fault::BadRow),
     }
 }
@@ -25,6 +27,27 @@ fn via(alloc: Global, text: &[u8]) -> Result<Why, Fault> {
         groups.push(Key::read(alloc, key)?)?;
     }
     Ok(Why::Via { groups })
+}
+
+fn step(alloc: Global, text: &[u8]) -> Result<Step, Fault> {
+    match text {
+        [b'>', key @ ..] => Ok(Step {
+            key: Key::read(alloc, key)?,
+            how: How::Forwarded,
+        }),
+        key => Ok(Step {
+            key: Key::read(alloc, key)?,
+            how: How::Expanded,
+        }),
+    }
+}
+
+fn through(alloc: Global, text: &[u8]) -> Result<Why, Fault> {
+    let mut steps = Items::new(alloc);
+    for part in text.split(|b| *b == b' ') {
+        steps.push(step(alloc, part)?)?;
+    }
+    Ok(Why::Through { steps })
 }
 
 /// The text of a reason behind a key, and whether a copy of the reason is the same.

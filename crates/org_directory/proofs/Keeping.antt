@@ -6,12 +6,12 @@ use Rattle.std.proofs.lemmas.List.Sums.{sum_by-append}
 use Rattle.std.specs.List.{list_any, position_from}
 use Rattle.std.proofs.lemmas.Iterator.Adapters.{position_from-zero}
 use Rattle.std.specs.Str.{bytes_eq}
-use Rattle.org_directory.specs.Register.{among, is_group}
+use Rattle.org_directory.specs.Register.{among, is_group, is_mailbox}
 use Rattle.mail_names.specs.Key.{lower}
-use Rattle.org_directory.specs.Lines.{answer_in, column, domain_in, fits, has_none, is_domain_name, key_in, keys_in, kind_in, line_of, lists_of, object_in, object_line, says_nothing, tell_in, words_of}
+use Rattle.org_directory.specs.Lines.{answer_in, column, domain_in, fits, has_none, is_domain_name, keep_word, key_in, keys_in, kind_in, line_of, lists_of, may_forward, object_in, object_line, says_nothing, tell_in, words_of}
 use Rattle.org_directory.specs.Drafts.{Fits, IsKept}
 use Rattle.csv.specs.Reading.{default_config, records, strip_bom}
-use Rattle.org_directory.specs.Reading.{Taken, and_then, both_passes, entries_of, first_pass, keys_of, none_taken, place_in, placed, register_of, take_line, take_row, Fails}
+use Rattle.org_directory.specs.Reading.{Taken, and_then, both_passes, entries_in, entries_of, first_pass, keys_of, none_taken, place_in, placed, register_of, take_line, take_row, Fails}
 use Rattle.org_directory.specs.declared.draft.Draft.{Draft}
 use Rattle.org_directory.specs.declared.draft.Drafts.{Drafts}
 use Rattle.org_directory.specs.declared.draft.Line.{Line}
@@ -20,6 +20,7 @@ use Rattle.org_directory.specs.declared.draft.Words.{Words}
 use Rattle.org_directory.specs.declared.draft.Line.TheVariants as lines
 use Rattle.org_directory.specs.declared.fault.DirectoryFault.{DirectoryFault}
 use Rattle.org_directory.specs.declared.fault.DirectoryFault.TheVariants as faults
+use Rattle.org_directory.specs.declared.object.Kind.{Kind}
 use Rattle.org_directory.specs.declared.object.Object.{Object}
 use Rattle.org_directory.proofs.Keys.{key_is_itself}
 
@@ -27,15 +28,15 @@ use Rattle.org_directory.proofs.Keys.{key_is_itself}
 abbrev pub line_fits : Option Line → Bool
 line_fits None = true
 line_fits (Some (lines.Domain name)) = true
-line_fits (Some (lines.Object d)) = fits d.kind d.members d.moderators
+line_fits (Some (lines.Object d)) = fits d.kind d.members d.moderators d.forward d.keep
 
 object-fits : (row : ℕ) (a : Option (List ℕ)) (b : Option Words) (c : Option Lists) → line_fits (object_in row a b c) ≡ true
 object-fits row None b c = refl
 object-fits row (Some key) None c = refl
 object-fits row (Some key) (Some words) None = refl
-object-fits row (Some key) (Some words) (Some lists) = by_test (fits words.kind lists.members lists.moderators) refl
+object-fits row (Some key) (Some words) (Some lists) = by_test (fits words.kind lists.members lists.moderators lists.forward words.keep) refl
   where
-    by_test : (b : Bool) → fits words.kind lists.members lists.moderators ≡ b → line_fits (object_in row (Some key) (Some words) (Some lists)) ≡ true
+    by_test : (b : Bool) → fits words.kind lists.members lists.moderators lists.forward words.keep ≡ b → line_fits (object_in row (Some key) (Some words) (Some lists)) ≡ true
     by_test true e = rw e e
     by_test false e = rw e refl
 
@@ -47,17 +48,47 @@ domain-fits : (b : Bool) (name : List ℕ) → line_fits (if b then Some (lines.
 domain-fits true name = refl
 domain-fits false name = refl
 
-pub line-fits : (row : ℕ) (fields : List (List ℕ)) → line_fits (line_of row fields) ≡ true
-line-fits row fields =
-    either (length fields == 8) (if bytes_eq (column fields 1) (codes "domain") then domain_in fields else object_line row fields) None
+pub line-fits : (columns row : ℕ) (fields : List (List ℕ)) → line_fits (line_of columns row fields) ≡ true
+line-fits columns row fields =
+    either (length fields == columns) (if bytes_eq (column fields 1) (codes "domain") then domain_in fields else object_line row fields) None
     (either (bytes_eq (column fields 1) (codes "domain")) (domain_in fields) (object_line row fields)
     (domain-fits (is_domain_name (column fields 0) && says_nothing fields) (lower (column fields 0)))
-    (object-fits row (key_in (column fields 0)) (words_of (kind_in (column fields 1)) (answer_in (column fields 4)) (tell_in (column fields 7)))
-    (lists_of (keys_in (column fields 2)) (keys_in (column fields 3)) (keys_in (column fields 5)) (keys_in (column fields 6))))) refl
+    (object-fits row (key_in (column fields 0))
+    (words_of (kind_in (column fields 1)) (answer_in (column fields 4)) (tell_in (column fields 7)) (answer_in (keep_word fields)))
+    (lists_of (keys_in (column fields 2)) (keys_in (column fields 3)) (keys_in (column fields 5)) (keys_in (column fields 6)) (keys_in (column fields 8))))) refl
 
-pub fits-of : (d : Draft) → fits d.kind d.members d.moderators ≡ true → Fits d
-fits-of d h off = empty d.members (first (is_group d.kind) (has_none d.members) (not (nat_lt 10 (length d.moderators))) h off)
+is-zero : (n : ℕ) → (n == 0) ≡ true → n ≡ 0
+is-zero n h = search rules
+
+pub fits-of : (d : Draft) → fits d.kind d.members d.moderators d.forward d.keep ≡ true → Fits d
+fits-of d h = record {
+  groups_alone = λ off. empty d.members (first (is_group d.kind) (has_none d.members)
+      (not (nat_lt 10 (length d.moderators)) && may_forward d.kind (length d.forward) d.keep) h off);
+  mailboxes_alone = λ off. alone d.kind d.keep d.forward (last (is_group d.kind || has_none d.members) (not (nat_lt 10 (length d.moderators)))
+      (may_forward d.kind (length d.forward) d.keep) h) off;
+}
   where
+    last : (a b c : Bool) → (a && (b && c)) ≡ true → c ≡ true
+    last true true c h = h
+    last true false c h = absurd (cc h)
+    last false b c h = absurd (cc h)
+
+    -- what is no mailbox forwards to no key
+    no-mailbox : (zero-keys one-key keep mailbox : Bool) → (if zero-keys then not keep else (one-key && mailbox)) ≡ true → mailbox ≡ false → zero-keys ≡ true
+    no-mailbox true one-key keep mailbox h off = refl
+    no-mailbox false true keep mailbox h off = absurd (clash mailbox h off)
+      where
+        clash : (b : Bool) → b ≡ true → b ≡ false → ⊥
+        clash b h off = cc
+    no-mailbox false false keep mailbox h off = absurd (cc h)
+
+    none : (ks : List (List ℕ)) → (length ks == 0) ≡ true → ks ≡ []
+    none [] h = refl
+    none (k ∷ ks) h = let e : length (k ∷ ks) ≡ 0 = is-zero (length (k ∷ ks)) h in absurd (omega (arith, e))
+
+    alone : (kind : Kind) (keep : Bool) (ks : List (List ℕ)) → may_forward kind (length ks) keep ≡ true → is_mailbox kind ≡ false → ks ≡ []
+    alone kind keep ks h off = none ks (no-mailbox (length ks == 0) (length ks == 1) keep (is_mailbox kind) h off)
+
     first : (a b c : Bool) → ((a || b) && c) ≡ true → a ≡ false → b ≡ true
     first true b c h e = absurd (cc e)
     first false true c h e = refl
@@ -131,19 +162,23 @@ both-off : (b c : Bool) → (b || c) ≡ false → (b ≡ false) × (c ≡ false
 both-off true c h = absurd (cc h)
 both-off false c h = (refl, h)
 
+-- What isn't past the limits keeps that of entries.
+pub few-entries : (objects entries : ℕ) → (nat_lt 20000 objects || nat_lt 200000 entries) ≡ false → entries ≤ 200000
+few-entries objects entries h = not-less 200000 entries (both-off (nat_lt 20000 objects) (nat_lt 200000 entries) h).1
+
 -- One more object is kept.
 pub kept-push : (old new : Drafts) (d : Draft) → IsKept old → Fits d → new.keys ≡ old.keys ++ d.key ∷ [] → new.drafts ≡ old.drafts ++ d ∷ []
-    → new.entries ≡ old.entries + length d.members → (nat_lt 20000 (length old.drafts + 1) || nat_lt 200000 (old.entries + length d.members)) ≡ false
+    → new.entries ≡ old.entries + entries_in d → (nat_lt 20000 (length old.drafts + 1) || nat_lt 200000 (old.entries + entries_in d)) ≡ false
     → among d.key old.keys ≡ false → IsKept new
 kept-push old new d kept fitting keys drafts entries room absent =
-    let off = both-off (nat_lt 20000 (length old.drafts + 1)) (nat_lt 200000 (old.entries + length d.members)) room in
+    let off = both-off (nat_lt 20000 (length old.drafts + 1)) (nat_lt 200000 (old.entries + entries_in d)) room in
     let objects : length old.drafts + 1 ≤ 20000 = not-less 20000 (length old.drafts + 1) off.0 in
-    let members : old.entries + length d.members ≤ 200000 = not-less 200000 (old.entries + length d.members) off.1 in
+    let members : old.entries + entries_in d ≤ 200000 = not-less 200000 (old.entries + entries_in d) off.1 in
     let named : keys_of new.drafts ≡ keys_of old.drafts ++ d.key ∷ [] = ap keys_of drafts ∙ map-append (λ (x : Draft). x.key) old.drafts (d ∷ []) in
     let sized : length new.drafts ≡ length old.drafts + 1 = ap length drafts ∙ length-append old.drafts (d ∷ []) in
-    let sum : entries_of (old.drafts ++ d ∷ []) ≡ entries_of old.drafts + entries_of (d ∷ []) = sum_by-append (λ (x : Draft). length x.members) old.drafts (d ∷ []) in
-    let one : entries_of (d ∷ []) ≡ 0 + length d.members = refl in
-    let total : entries_of new.drafts ≡ entries_of old.drafts + length d.members = ap entries_of drafts ∙ omega (arith, sum, one) in
+    let sum : entries_of (old.drafts ++ d ∷ []) ≡ entries_of old.drafts + entries_of (d ∷ []) = sum_by-append entries_in old.drafts (d ∷ []) in
+    let one : entries_of (d ∷ []) ≡ 0 + entries_in d = refl in
+    let total : entries_of new.drafts ≡ entries_of old.drafts + entries_in d = ap entries_of drafts ∙ omega (arith, sum, one) in
     record {
       keys = keys ∙ (ap (λ ks. ks ++ d.key ∷ []) kept.keys ∙ sym named);
       entries = omega (arith, entries, kept.entries, total);
@@ -171,9 +206,9 @@ kept-push old new d kept fitting keys drafts entries room absent =
     fits-at p x (inl h) = kept.fitting p x h
     fits-at p x (inr h) = subst Fits (sym h.1) fitting
 
-    few-at : old.entries + length d.members ≤ 200000 → (p : ℕ) (x : Draft) → (slice_get old.drafts p ≡ Some x) ⊎ ((p ≡ length old.drafts) × (x ≡ d)) → length x.members ≤ 200000
+    few-at : old.entries + entries_in d ≤ 200000 → (p : ℕ) (x : Draft) → (slice_get old.drafts p ≡ Some x) ⊎ ((p ≡ length old.drafts) × (x ≡ d)) → entries_in x ≤ 200000
     few-at few p x (inl h) = kept.each_few p x h
-    few-at few p x (inr h) = subst (λ (y : Draft). length y.members ≤ 200000) (sym h.1) (omega (arith, few))
+    few-at few p x (inr h) = subst (λ (y : Draft). entries_in y ≤ 200000) (sym h.1) (omega (arith, few))
 
 -- A domain changes none of it.
 pub kept-same : (old new : Drafts) → IsKept old → new.keys ≡ old.keys → new.drafts ≡ old.drafts → new.entries ≡ old.entries → IsKept new
@@ -187,7 +222,7 @@ kept-same old new kept keys drafts entries = record {
   each_few = λ p x h. kept.each_few p x (subst (λ ds. slice_get ds p ≡ Some x) drafts h);
 }
 
-pub take-object : (t : Taken) (row : ℕ) (d : Draft) → (nat_lt 20000 (length t.drafts + 1) || nat_lt 200000 (entries_of t.drafts + length d.members)) ≡ false
+pub take-object : (t : Taken) (row : ℕ) (d : Draft) → (nat_lt 20000 (length t.drafts + 1) || nat_lt 200000 (entries_of t.drafts + entries_in d)) ≡ false
     → among d.key (keys_of t.drafts) ≡ false → take_line t row (Some (lines.Object d)) ≡ Ok (record t { rows = row; drafts = t.drafts ++ d ∷ [] })
 take-object t row d room absent = rw (room, absent) refl
 

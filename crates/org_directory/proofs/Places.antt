@@ -1,9 +1,9 @@
 -- Keys and their places.
-use Rattle.std.specs.Prelude.{◌≡◌, ◌<◌, ℕ, suc, zero, true, List, [], ◌∷◌, length, position, Some, slice_get, get_or, refl}
+use Rattle.std.specs.Prelude.{◌≡◌, ◌<◌, ◌≤◌, ℕ, suc, zero, Bool, true, false, if◌then◌else◌, List, [], ◌∷◌, length, position, Option, Some, None, slice_get, get_or, refl}
 use Rattle.std.proofs.Common.{sym, ap, subst, arith}
 use Rattle.std.specs.Str.{bytes_eq}
 use Rattle.std.proofs.lemmas.List.Quantifiers.{position-Some}
-use Rattle.org_directory.specs.Register.{Register, IsSound, key_at, key_or_none, keys_at, members_in, members_of, object_at, object_of, place_of}
+use Rattle.org_directory.specs.Register.{Register, AllBelow, InRange, IsSound, forward_list, is_group, key_at, key_or_none, keys_at, members_in, members_of, object_at, object_of, onward, onward_in, onward_of, place_of}
 use Rattle.org_directory.specs.declared.object.Object.{Object}
 use Rattle.org_directory.proofs.Keys.{same_key}
 
@@ -47,6 +47,29 @@ object_of-at reg p sound h = ap (object_at reg) (place_of-key_at reg p sound h)
 pub members-at : (reg : Register) (p : ℕ) → IsSound reg → p < length reg.objects
     → members_of reg (key_at reg p) ≡ keys_at reg (members_in (slice_get reg.objects p))
 members-at reg p sound h = ap (λ o. keys_at reg (members_in o)) (object_of-at reg p sound h)
+
+pub onward-at : (reg : Register) (p : ℕ) → IsSound reg → p < length reg.objects
+    → onward_of reg (key_at reg p) ≡ keys_at reg (onward_in (slice_get reg.objects p))
+onward-at reg p sound h = ap (λ o. keys_at reg (onward_in o)) (object_of-at reg p sound h)
+
+-- The places that mail goes on to are in range, and not many.
+pub onward-below : (n : ℕ) (o : Object) → InRange n o → AllBelow n (onward o)
+onward-below n o r = by_kind (is_group o.kind)
+  where
+    by_kind : (b : Bool) → AllBelow n (if b then o.members else forward_list o.forward)
+    by_kind true = r.members
+    by_kind false = r.forward
+
+pub onward-few : (n : ℕ) (o : Object) → InRange n o → length (onward o) ≤ 200000
+onward-few n o r = by_kind (is_group o.kind)
+  where
+    one : (f : Option ℕ) → length (forward_list f) ≤ 200000
+    one None = omega arith
+    one (Some p) = omega arith
+
+    by_kind : (b : Bool) → length (if b then o.members else forward_list o.forward) ≤ 200000
+    by_kind true = r.few_members
+    by_kind false = one o.forward
 
 -- What is found lies in range, and has the key.
 pub found-below : (reg : Register) (key : List ℕ) (p : ℕ) → place_of reg key ≡ Some p → (p < length reg.objects) × (key ≡ key_at reg p)

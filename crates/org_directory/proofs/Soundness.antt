@@ -1,13 +1,14 @@
 -- Where the second pass finds no fault, the directory is sound.
-use Rattle.std.specs.Prelude.{◌≡◌, ◌<◌, ◌≤◌, ℕ, zero, suc, Bool, true, false, if◌then◌else◌, ◌&&◌, List, [], ◌∷◌, length, map, position, slice_get, slice_index_or, unwrap_or, is_some, Option, Some, None, All, refl}
+use Rattle.std.specs.Prelude.{◌≡◌, ◌<◌, ◌≤◌, ◌+◌, ℕ, zero, suc, Bool, true, false, not, if◌then◌else◌, ◌&&◌, List, [], ◌∷◌, length, map, position, slice_get, slice_index_or, unwrap_or, is_some, Option, Some, None, All, refl}
 use Rattle.std.proofs.Common.{sym, ◌∙◌, ap, subst, arith}
 use Rattle.std.proofs.lemmas.List.{length-map}
 use Rattle.std.proofs.lemmas.List.Quantifiers.{position-Some}
+use Rattle.std.specs.List.{list_any}
 use Rattle.std.specs.Str.{bytes_eq}
-use Rattle.org_directory.specs.Register.{Register, IsSound, InRange, AllBelow, is_group, place_of}
+use Rattle.org_directory.specs.Register.{Register, IsSound, InRange, AllBelow, forward_list, is_group, is_mailbox, place_of}
 use Rattle.org_directory.specs.Lines.{has_none}
-use Rattle.org_directory.specs.Drafts.{IsKept}
-use Rattle.org_directory.specs.Reading.{are_known, fault_of, keys_of, names_well, or_else, place_in, place_or_0, placed, second_pass}
+use Rattle.org_directory.specs.Drafts.{Fits, IsKept}
+use Rattle.org_directory.specs.Reading.{are_known, entries_in, fault_of, first_place, keys_of, names_group, names_well, or_else, place_in, place_or_0, placed, second_pass}
 use Rattle.org_directory.specs.declared.draft.Draft.{Draft}
 use Rattle.org_directory.specs.declared.draft.Drafts.{Drafts}
 use Rattle.org_directory.specs.declared.fault.DirectoryFault.{DirectoryFault}
@@ -70,20 +71,28 @@ below-all named (k ∷ ks) h =
     let parts = both (is_some (place_in named k)) (are_known named ks) h in
     all-cons (λ p. p < length named) (place_or_0 named k) (map (place_or_0 named) ks) (found-below named k parts.0) (below-all named ks parts.1)
 
-range : (all : List Draft) (x : Draft) (n : ℕ) → length (keys_of all) ≡ n → names_well all x ≡ true → (is_group x.kind ≡ false → x.members ≡ [])
-    → length x.members ≤ 200000 → InRange n (placed (keys_of all) x)
+-- of places that are in range the first is
+first-below : (n : ℕ) (ps : List ℕ) → AllBelow n ps → AllBelow n (forward_list (first_place ps))
+first-below n [] h = none-all (λ p. p < n)
+first-below n (p ∷ ps) h = all-cons (λ q. q < n) p [] (h 0 0 (omega arith)) (none-all (λ q. q < n))
+
+range : (all : List Draft) (x : Draft) (n : ℕ) → length (keys_of all) ≡ n → names_well all x ≡ true → Fits x
+    → entries_in x ≤ 200000 → InRange n (placed (keys_of all) x)
 range all x n size ok fits few =
     let a = both (are_known (keys_of all) x.members) _ ok in
     let b = both (are_known (keys_of all) x.owners) _ a.1 in
     let c = both (are_known (keys_of all) x.moderators) _ b.1 in
     let d = both (are_known (keys_of all) x.bypass) _ c.1 in
+    let e = both (not (list_any (names_group all) x.moderators)) _ d.1 in
     subst (λ m. InRange m (placed (keys_of all) x)) size (record {
       members = below-all (keys_of all) x.members a.0;
       owners = below-all (keys_of all) x.owners b.0;
       moderators = below-all (keys_of all) x.moderators c.0;
       bypass = below-all (keys_of all) x.bypass d.0;
-      groups_alone = λ off. ap (map (place_or_0 (keys_of all))) (fits off);
-      few_members = subst (λ m. m ≤ 200000) (sym (length-map x.members (place_or_0 (keys_of all)))) few;
+      groups_alone = λ off. ap (map (place_or_0 (keys_of all))) (fits.groups_alone off);
+      forward = first-below (length (keys_of all)) (map (place_or_0 (keys_of all)) x.forward) (below-all (keys_of all) x.forward e.1);
+      mailboxes_alone = λ off. ap (λ ks. first_place (map (place_or_0 (keys_of all)) ks)) (fits.mailboxes_alone off);
+      few_members = subst (λ m. m ≤ 200000) (sym (length-map x.members (place_or_0 (keys_of all)))) (omega (arith, few));
     })
 
 pub sound-of : (d : Drafts) → IsKept d → second_pass d.drafts d.drafts ≡ None

@@ -4,7 +4,7 @@ use Rattle.std.specs.List.{list_all, list_any}
 use Rattle.std.specs.Str.{bytes_eq}
 use Rattle.csv.specs.Reading.{default_config, records, strip_bom}
 use Rattle.org_directory.specs.Register.{Register, among, is_group}
-use Rattle.org_directory.specs.Lines.{has_none, is_header, line_of}
+use Rattle.org_directory.specs.Lines.{columns_of, has_none, line_of}
 use Rattle.org_directory.specs.declared.draft.Draft.{Draft}
 use Rattle.org_directory.specs.declared.draft.Line.{Line}
 use Rattle.org_directory.specs.declared.draft.Line.TheVariants as lines
@@ -12,21 +12,26 @@ use Rattle.org_directory.specs.declared.fault.DirectoryFault.{DirectoryFault}
 use Rattle.org_directory.specs.declared.fault.DirectoryFault.TheVariants as faults
 use Rattle.org_directory.specs.declared.object.Object.{Object}
 
--- how many records were read, and what they say
+-- how many records were read, how many columns the header has, and what they say
 pub record Taken : Type 0 where
   pub rows : ℕ
+  pub columns : ℕ
   pub domains : List (List ℕ)
   pub drafts : List Draft
 
 abbrev pub none_taken : Taken
-none_taken = record { rows = 0; domains = []; drafts = [] }
+none_taken = record { rows = 0; columns = 0; domains = []; drafts = [] }
 
 abbrev pub keys_of : List Draft → List (List ℕ)
 keys_of drafts = map (λ d. d.key) drafts
 
+-- the member entries of one object; a forward counts as one
+abbrev pub entries_in : Draft → ℕ
+entries_in d = length d.members + length d.forward
+
 -- the member entries
 abbrev pub entries_of : List Draft → ℕ
-entries_of drafts = sum_by (λ d. length d.members) drafts
+entries_of drafts = sum_by entries_in drafts
 
 -- One record of the first pass: BadRow where it hasn't the form, TooMany past 20,000 objects or 200,000 member entries,
 -- DoubleKey where its key or domain stood before.
@@ -35,14 +40,18 @@ take_line t row None = Err (faults.BadRow row)
 take_line t row (Some (lines.Domain name)) =
     if among name t.domains then Err (faults.DoubleKey row) else Ok (record t { rows = row; domains = t.domains ++ name ∷ [] })
 take_line t row (Some (lines.Object d)) =
-    if nat_lt 20000 (length t.drafts + 1) || nat_lt 200000 (entries_of t.drafts + length d.members) then Err (faults.TooMany row)
+    if nat_lt 20000 (length t.drafts + 1) || nat_lt 200000 (entries_of t.drafts + entries_in d) then Err (faults.TooMany row)
     else (if among d.key (keys_of t.drafts) then Err (faults.DoubleKey row) else Ok (record t { rows = row; drafts = t.drafts ++ d ∷ [] }))
 
--- The first record is the header.
+-- The first record is the header, and says how many columns there are.
+abbrev pub begun : Taken → Option ℕ → Result Taken DirectoryFault
+begun t None = Err (faults.BadRow 1)
+begun t (Some columns) = Ok (record t { rows = 1; columns = columns })
+
 abbrev pub take_row : Taken → List (List ℕ) → Result Taken DirectoryFault
 take_row t fields =
-    if t.rows == 0 then (if is_header fields then Ok (record t { rows = 1 }) else Err (faults.BadRow 1))
-    else take_line t (t.rows + 1) (line_of (t.rows + 1) fields)
+    if t.rows == 0 then begun t (columns_of fields)
+    else take_line t (t.rows + 1) (line_of t.columns (t.rows + 1) fields)
 
 -- the rest of the pass, where there was no fault
 abbrev pub and_then : {X Y : Type 0} → Result X DirectoryFault → (X → Result Y DirectoryFault) → Result Y DirectoryFault
@@ -80,7 +89,7 @@ names_group drafts key = group_at drafts (place_in (keys_of drafts) key)
 abbrev pub names_well : List Draft → Draft → Bool
 names_well drafts d =
     are_known (keys_of drafts) d.members && (are_known (keys_of drafts) d.owners && (are_known (keys_of drafts) d.moderators
-    && (are_known (keys_of drafts) d.bypass && not (list_any (names_group drafts) d.moderators))))
+    && (are_known (keys_of drafts) d.bypass && (not (list_any (names_group drafts) d.moderators) && are_known (keys_of drafts) d.forward))))
 
 -- One object of the second pass: UnknownMember, or NoModerators where it is moderated and has none.
 abbrev pub fault_of : List Draft → Draft → Option DirectoryFault
@@ -101,6 +110,11 @@ second_pass drafts (d ∷ ds) = or_else (fault_of drafts d) (second_pass drafts 
 abbrev pub place_or_0 : List (List ℕ) → List ℕ → ℕ
 place_or_0 named key = unwrap_or (place_in named key) 0
 
+-- the first of these places
+abbrev pub first_place : List ℕ → Option ℕ
+first_place [] = None
+first_place (p ∷ ps) = Some p
+
 -- the object, with places for keys
 abbrev pub placed : List (List ℕ) → Draft → Object
 placed named d = record {
@@ -112,6 +126,8 @@ placed named d = record {
   moderators = map (place_or_0 named) d.moderators;
   bypass = map (place_or_0 named) d.bypass;
   tell = d.tell;
+  forward = first_place (map (place_or_0 named) d.forward);
+  keep = d.keep;
 }
 
 -- the directory, unless there is a fault

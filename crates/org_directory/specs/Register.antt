@@ -1,5 +1,5 @@
 -- What a directory is: accepted domains, and objects that name each other by their places.
-use Rattle.std.specs.Prelude.{◌≡◌, ◌<◌, ◌≤◌, ℕ, Bool, true, false, not, List, [], length, map, position, Option, Some, None, slice_get, All}
+use Rattle.std.specs.Prelude.{◌≡◌, ◌<◌, ◌≤◌, ℕ, Bool, true, false, not, ◌&&◌, ◌||◌, if◌then◌else◌, List, [], ◌∷◌, length, map, position, Option, Some, None, is_some, slice_get, All}
 use Rattle.std.specs.List.{list_any}
 use Rattle.std.specs.Str.{bytes_eq}
 use Rattle.mail_names.specs.Key.{domain_of}
@@ -38,6 +38,11 @@ is_group kinds.Group = true
 is_group kinds.Mailbox = false
 is_group kinds.Contact = false
 
+abbrev pub is_mailbox : Kind → Bool
+is_mailbox kinds.Mailbox = true
+is_mailbox kinds.Contact = false
+is_mailbox kinds.Group = false
+
 -- a mailbox or a contact, or no object and outside
 abbrev pub takes_mail : Option Object → Bool → Bool
 takes_mail None inside = not inside
@@ -64,21 +69,48 @@ abbrev pub members_in : Option Object → List ℕ
 members_in None = []
 members_in (Some o) = o.members
 
+-- the place that a forward names, in a list
+abbrev pub forward_list : Option ℕ → List ℕ
+forward_list None = []
+forward_list (Some p) = p ∷ []
+
+-- the places that mail to an object goes on to: a group's members, or the forward of a mailbox
+abbrev pub onward : Object → List ℕ
+onward o = if is_group o.kind then o.members else forward_list o.forward
+
+abbrev pub onward_in : Option Object → List ℕ
+onward_in None = []
+onward_in (Some o) = onward o
+
+-- A carrier is a group, or a mailbox with a forward.
+abbrev pub is_carrier : Object → Bool
+is_carrier o = is_group o.kind || is_some o.forward
+
+-- Mail stays with a mailbox without a forward, with one that keeps, and with a contact.
+abbrev pub is_end : Object → Bool
+is_end o = not (is_group o.kind) && (not (is_some o.forward) || o.keep)
+
 -- the members of the object of this key
 abbrev pub members_of : Register → List ℕ → List (List ℕ)
 members_of reg key = keys_at reg (members_in (object_of reg key))
+
+-- the keys that mail to the object of this key goes on to
+abbrev pub onward_of : Register → List ℕ → List (List ℕ)
+onward_of reg key = keys_at reg (onward_in (object_of reg key))
 
 -- places in a list of n objects
 abbrev pub AllBelow : ℕ → List ℕ → Type 0
 AllBelow n places = All (λ p. p < n) places
 
--- An object's places are those of n objects, and a group alone has members.
+-- An object's places are those of n objects, a group alone has members, and a mailbox alone forwards.
 pub record InRange (n : ℕ) (o : Object) : Type 0 where
   pub members : AllBelow n o.members
   pub owners : AllBelow n o.owners
   pub moderators : AllBelow n o.moderators
   pub bypass : AllBelow n o.bypass
   pub groups_alone : is_group o.kind ≡ false → o.members ≡ []
+  pub forward : AllBelow n (forward_list o.forward)
+  pub mailboxes_alone : is_mailbox o.kind ≡ false → o.forward ≡ None
   pub few_members : length o.members ≤ 200000
 
 -- Each object is the first of its key, its places are in range, and the objects are at most 20,000.

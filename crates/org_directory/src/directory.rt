@@ -1,6 +1,6 @@
 // The directory.
 ghost use Rattle.std.specs.Prelude.{[], ◌≡◌, ◌+◌, ◌<◌, length, map, slice_get, Some};
-ghost use Rattle.org_directory.specs.Register.{IsSound, is_inside, place_of, is_deliverable, members_in};
+ghost use Rattle.org_directory.specs.Register.{IsSound, forward_list, is_inside, place_of, is_deliverable, onward_in};
 
 use crate::names::Names;
 use crate::object::{Kind, Object};
@@ -26,6 +26,13 @@ impl Model for Directory {
     ghost view = { λ d. record { domains = d.domains; objects = d.objects } };
 
     ghost invariant = { λ d. (d.keys ≡ map (λ o. o.key) d.objects) × IsSound (record { domains = d.domains; objects = d.objects }) };
+}
+
+/// The forward, where it is asked for as member 0.
+fn forward_at(forward: Option<u32>, k: u32) -> Option<u32>
+    ensures { result ≡ slice_get (forward_list forward) k }
+{
+    if k == 0 { forward } else { None }
 }
 
 impl Directory {
@@ -102,13 +109,18 @@ impl Directory {
         }
     }
 
-    /// The member number `k` of an object, or None past its last. It counts one step and takes no memory.
+    /// The member number `k` of a group, or None past its last; the forward of a mailbox is its member 0. It counts one
+    /// step and takes no memory.
     pub fn member_at<L: Ledger>(&self, id: u32, k: u32, steps: &mut Steps<L>) -> Option<u32>
         requires { id < length self.now.objects }
-        ensures member { result ≡ slice_get (members_in (slice_get self.now.objects id)) k }
+        ensures member { result ≡ slice_get (onward_in (slice_get self.now.objects id)) k }
         ensures cost { steps.new ≡ steps.old + 1 }
     {
         steps.tick();
-        self.object(id).members.as_slice().get(k as usize).copied()
+        let object = self.object(id);
+        if matches!(object.kind, Kind::Group) {
+            return object.members.as_slice().get(k as usize).copied();
+        }
+        forward_at(object.forward, k)
     }
 }

@@ -17,6 +17,9 @@ pub struct Draft {
     pub moderators: Names,
     pub bypass: Names,
     pub tell: Tell,
+    /// The key that a mailbox forwards to, if it forwards.
+    pub forward: Names,
+    pub keep: bool,
 }
 
 /// What an object's record says by a word.
@@ -25,6 +28,7 @@ pub struct Words {
     pub kind: Kind,
     pub moderated: bool,
     pub tell: Tell,
+    pub keep: bool,
 }
 
 /// What an object's record says by a list of keys.
@@ -34,6 +38,7 @@ pub struct Lists {
     pub owners: Names,
     pub moderators: Names,
     pub bypass: Names,
+    pub forward: Names,
 }
 
 /// What a record of the form says.
@@ -48,12 +53,14 @@ pub enum Line {
 pub struct Drafts {
     /// How many records were read.
     pub rows: usize,
+    /// How many columns the header has, 8 in a file without forwards and 10 in one with them, or 0 where none was read.
+    pub columns: usize,
     /// The accepted domains.
     pub domains: Names,
     /// The objects' keys.
     pub keys: Names,
     /// The objects.
     pub drafts: Items<Draft>,
-    /// How many member entries they have.
+    /// How many members and forwards they have.
     pub entries: usize,
 }

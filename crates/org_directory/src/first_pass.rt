@@ -2,14 +2,14 @@
 ghost use Rattle.std.specs.Prelude.{◌≡◌, ◌≤◌, ◌+◌, ◌||◌, nat_lt, false, length, IfOk, OnOk, Some, Option};
 ghost use Rattle.csv.specs.Reading.{default_config, records, strip_bom};
 ghost use Rattle.csv.specs.Records.{fields_of};
-ghost use Rattle.org_directory.specs.Lines.{line_of};
-ghost use Rattle.org_directory.specs.Reading.{first_pass, none_taken, take_line, take_row};
+ghost use Rattle.org_directory.specs.Lines.{columns_of, line_of};
+ghost use Rattle.org_directory.specs.Reading.{begun, entries_in, first_pass, none_taken, take_line, take_row};
 ghost use Rattle.org_directory.specs.Drafts.{Fits, IsKept, Takes, TakesAll, taken_of};
 ghost use Rattle.org_directory.specs.declared.draft.Line.TheVariants as lines;
 
 use crate::draft::{Draft, Drafts, Line};
 use crate::fault::DirectoryFault;
-use crate::line::{is_header, read_line};
+use crate::line::{columns_of, read_line};
 use crate::names::Names;
 use csv::{ByteRecord, ReaderBuilder};
 use mail_names::Items;
@@ -22,6 +22,7 @@ fn no_drafts(alloc: Global) -> Drafts
 {
     Drafts {
         rows: 0,
+        columns: 0,
         domains: Names::new(alloc),
         keys: Names::new(alloc),
         drafts: Items::new(alloc),
@@ -29,12 +30,12 @@ fn no_drafts(alloc: Global) -> Drafts
     }
 }
 
-/// Whether one more object with so many members is past a limit.
-fn is_too_many(objects: usize, entries: usize, members: usize) -> bool
+/// Whether one more object with so many members and forwards is past a limit.
+fn is_too_many(objects: usize, entries: usize, members: usize, forwards: usize) -> bool
     requires { entries ≤ 200000 }
-    ensures { result ≡ (nat_lt 20000 (objects + 1) || nat_lt 200000 (entries + members)) }
+    ensures { result ≡ (nat_lt 20000 (objects + 1) || nat_lt 200000 (entries + (members + forwards))) }
 {
-    objects >= 20_000 || members > 200_000 - entries
+    objects >= 20_000 || members > 200_000 - entries || forwards > 200_000 - entries - members
 }
 
 fn take_domain(
@@ -67,7 +68,8 @@ fn take_object(
     ensures kept { OnOk result (IsKept drafts.new) }
 {
     let members = draft.members.len();
-    if is_too_many(drafts.drafts.len(), drafts.entries, members) {
+    let forwards = draft.forward.len();
+    if is_too_many(drafts.drafts.len(), drafts.entries, members, forwards) {
         return Err(DirectoryFault::TooMany { row });
     }
     if drafts.keys.has(draft.key.bytes()) {
@@ -75,7 +77,7 @@ fn take_object(
     }
     drafts.keys.push(alloc, draft.key.bytes())?;
     drafts.drafts.push(draft)?;
-    drafts.entries += members;
+    drafts.entries += members + forwards;
     drafts.rows = row;
     Ok(())
 }
@@ -87,13 +89,29 @@ fn take_line(
     drafts: &mut Drafts,
 ) -> Result<(), DirectoryFault>
     requires { IsKept drafts.old }
-    ensures takes { Takes result (take_line (taken_of drafts.old) row (line_of row (fields_of fields.now))) (taken_of drafts.new) }
+    ensures takes { Takes result (take_line (taken_of drafts.old) row (line_of drafts.old.columns row (fields_of fields.now))) (taken_of drafts.new) }
     ensures kept { OnOk result (IsKept drafts.new) }
 {
-    match read_line(alloc, row, fields)? {
+    match read_line(alloc, drafts.columns, row, fields)? {
         None => Err(DirectoryFault::BadRow { row }),
         Some(Line::Domain { name }) => take_domain(alloc, row, name.as_slice(), drafts),
         Some(Line::Object { draft }) => take_object(alloc, row, draft, drafts),
+    }
+}
+
+/// Takes the first record.
+fn take_header(fields: &ByteRecord, drafts: &mut Drafts) -> Result<(), DirectoryFault>
+    requires { IsKept drafts.old }
+    ensures takes { Takes result (begun (taken_of drafts.old) (columns_of (fields_of fields.now))) (taken_of drafts.new) }
+    ensures kept { OnOk result (IsKept drafts.new) }
+{
+    match columns_of(fields) {
+        None => Err(DirectoryFault::BadRow { row: 1 }),
+        Some(columns) => {
+            drafts.rows = 1;
+            drafts.columns = columns;
+            Ok(())
+        }
     }
 }
 
@@ -104,11 +122,7 @@ fn take_row(alloc: Global, fields: &ByteRecord, drafts: &mut Drafts) -> Result<(
     ensures kept { OnOk result (IsKept drafts.new) }
 {
     if drafts.rows == 0 {
-        if !is_header(fields) {
-            return Err(DirectoryFault::BadRow { row: 1 });
-        }
-        drafts.rows = 1;
-        return Ok(());
+        return take_header(fields, drafts);
     }
     match drafts.rows.checked_add(1) {
         None => Err(DirectoryFault::NoMemory),

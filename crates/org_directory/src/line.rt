@@ -1,11 +1,11 @@
 // What a record says, where it has the form.
-ghost use Rattle.std.specs.Prelude.{◌≡◌, ◌<◌, ◌==◌, ◌&&◌, not, IfOk, OnOk, Option, Some, None, false, length, slice_get};
+ghost use Rattle.std.specs.Prelude.{◌≡◌, ◌<◌, ◌==◌, ◌&&◌, not, IfOk, OnOk, Option, Some, None, false, codes, length, slice_get};
 ghost use Rattle.std.specs.List.{list_all};
 ghost use Rattle.std.specs.Str.{bytes_eq};
 ghost use Rattle.csv.specs.Records.{fields_of};
-ghost use Rattle.mail_names.specs.Key.{is_key_byte};
+ghost use Rattle.mail_names.specs.Key.{is_empty, is_key_byte};
 ghost use Rattle.org_directory.specs.Register.{among};
-ghost use Rattle.org_directory.specs.Lines.{answer_in, column, domain_in, fits, has_none, is_domain_name, is_header, is_name_byte, key_in, keys_in, kind_in, line_of, lists_of, one_more, object_in, object_line, says_nothing, tell_in, words_of, Adds};
+ghost use Rattle.org_directory.specs.Lines.{answer_in, column, columns_of, domain_in, fits, has_none, is_domain_name, is_name_byte, keep_word, key_in, keys_in, kind_in, line_of, lists_of, may_forward, names_eight, names_ten, one_more, object_in, object_line, says_nothing, tell_in, words_of, Adds};
 
 use crate::draft::{Draft, Line, Lists, Words};
 use crate::names::Names;
@@ -22,6 +22,16 @@ fn column(fields: &ByteRecord, place: usize) -> &[u8]
     match fields.get(place) {
         Some(field) => field,
         None => b"",
+    }
+}
+
+/// The word that says whether mail is kept, which is `no` in a file that has no such column.
+fn keep_word(fields: &ByteRecord) -> &[u8]
+    ensures { result.now ≡ keep_word (fields_of fields.now) }
+{
+    match fields.get(9) {
+        Some(field) => field,
+        None => b"no",
     }
 }
 
@@ -151,6 +161,18 @@ fn is_domain_name(text: &[u8]) -> bool
     !text.is_empty() && text.len() <= 252 && are_name_bytes(text)
 }
 
+/// Whether the last fields of a domain's record say nothing.
+fn is_plain_behind(fields: &ByteRecord) -> bool
+    ensures { result ≡ (is_empty (column (fields_of fields.now) 5) && (is_empty (column (fields_of fields.now) 6) && (bytes_eq (column (fields_of fields.now) 7) (codes "always")
+        && (is_empty (column (fields_of fields.now) 8) && bytes_eq (keep_word (fields_of fields.now)) (codes "no"))))) }
+{
+    column(fields, 5).is_empty()
+        && column(fields, 6).is_empty()
+        && is(column(fields, 7), b"always")
+        && column(fields, 8).is_empty()
+        && is(keep_word(fields), b"no")
+}
+
 /// Whether the fields behind a domain's name say nothing.
 fn is_plain(fields: &ByteRecord) -> bool
     ensures { result ≡ says_nothing (fields_of fields.now) }
@@ -158,9 +180,7 @@ fn is_plain(fields: &ByteRecord) -> bool
     column(fields, 2).is_empty()
         && column(fields, 3).is_empty()
         && is(column(fields, 4), b"no")
-        && column(fields, 5).is_empty()
-        && column(fields, 6).is_empty()
-        && is(column(fields, 7), b"always")
+        && is_plain_behind(fields)
 }
 
 fn read_domain(alloc: Global, fields: &ByteRecord) -> Result<Option<Line>, NoMemory>
@@ -176,28 +196,44 @@ fn read_domain(alloc: Global, fields: &ByteRecord) -> Result<Option<Line>, NoMem
     Ok(Some(Line::Domain { name }))
 }
 
-fn fits(kind: Kind, members: &Names, moderators: &Names) -> bool
-    ensures { result ≡ fits kind members.now moderators.now }
+/// Whether an object of this kind may forward so: a mailbox alone, to one key, and what doesn't forward doesn't keep.
+fn may_forward(kind: Kind, forward: &Names, keep: bool) -> bool
+    ensures { result ≡ may_forward kind (length forward.now) keep }
 {
-    (matches!(kind, Kind::Group) || members.len() == 0) && moderators.len() <= 10
+    match forward.len() {
+        0 => !keep,
+        1 => matches!(kind, Kind::Mailbox),
+        _ => false,
+    }
+}
+
+fn fits(kind: Kind, members: &Names, moderators: &Names, forward: &Names, keep: bool) -> bool
+    ensures { result ≡ fits kind members.now moderators.now forward.now keep }
+{
+    (matches!(kind, Kind::Group) || members.len() == 0)
+        && moderators.len() <= 10
+        && may_forward(kind, forward, keep)
 }
 
 fn read_words(fields: &ByteRecord) -> Option<Words>
-    ensures { result ≡ words_of (kind_in (column (fields_of fields.now) 1)) (answer_in (column (fields_of fields.now) 4)) (tell_in (column (fields_of fields.now) 7)) }
+    ensures { result ≡ words_of (kind_in (column (fields_of fields.now) 1)) (answer_in (column (fields_of fields.now) 4)) (tell_in (column (fields_of fields.now) 7))
+        (answer_in (keep_word (fields_of fields.now))) }
 {
     let kind = read_kind(column(fields, 1))?;
     let moderated = read_answer(column(fields, 4))?;
     let tell = read_tell(column(fields, 7))?;
+    let keep = read_answer(keep_word(fields))?;
     Some(Words {
         kind,
         moderated,
         tell,
+        keep,
     })
 }
 
 fn read_lists(alloc: Global, fields: &ByteRecord) -> Result<Option<Lists>, NoMemory>
     ensures { IfOk result (λ lists. lists ≡ lists_of (keys_in (column (fields_of fields.now) 2)) (keys_in (column (fields_of fields.now) 3))
-        (keys_in (column (fields_of fields.now) 5)) (keys_in (column (fields_of fields.now) 6))) }
+        (keys_in (column (fields_of fields.now) 5)) (keys_in (column (fields_of fields.now) 6)) (keys_in (column (fields_of fields.now) 8))) }
 {
     let Some(members) = read_keys(alloc, column(fields, 2))? else {
         return Ok(None);
@@ -211,11 +247,15 @@ fn read_lists(alloc: Global, fields: &ByteRecord) -> Result<Option<Lists>, NoMem
     let Some(bypass) = read_keys(alloc, column(fields, 6))? else {
         return Ok(None);
     };
+    let Some(forward) = read_keys(alloc, column(fields, 8))? else {
+        return Ok(None);
+    };
     Ok(Some(Lists {
         members,
         owners,
         moderators,
         bypass,
+        forward,
     }))
 }
 
@@ -228,8 +268,9 @@ fn object(row: usize, key: Key, words: Words, lists: Lists) -> Option<Line>
         owners,
         moderators,
         bypass,
+        forward,
     } = lists;
-    if !fits(words.kind, &members, &moderators) {
+    if !fits(words.kind, &members, &moderators, &forward, words.keep) {
         return None;
     }
     Some(Line::Object {
@@ -243,6 +284,8 @@ fn object(row: usize, key: Key, words: Words, lists: Lists) -> Option<Line>
             moderators,
             bypass,
             tell: words.tell,
+            forward,
+            keep: words.keep,
         },
     })
 }
@@ -262,11 +305,16 @@ fn read_object(alloc: Global, row: usize, fields: &ByteRecord) -> Result<Option<
     Ok(object(row, key, words, lists))
 }
 
-/// What the record says, or None where it hasn't the form.
-pub fn read_line(alloc: Global, row: usize, fields: &ByteRecord) -> Result<Option<Line>, NoMemory>
-    ensures { IfOk result (λ line. line ≡ line_of row (fields_of fields.now)) }
+/// What the record says, or None where it hasn't the form or not so many columns.
+pub fn read_line(
+    alloc: Global,
+    columns: usize,
+    row: usize,
+    fields: &ByteRecord,
+) -> Result<Option<Line>, NoMemory>
+    ensures { IfOk result (λ line. line ≡ line_of columns row (fields_of fields.now)) }
 {
-    if fields.len() != 8 {
+    if fields.len() != columns {
         return Ok(None);
     }
     if is(column(fields, 1), b"domain") {
@@ -275,12 +323,11 @@ pub fn read_line(alloc: Global, row: usize, fields: &ByteRecord) -> Result<Optio
     read_object(alloc, row, fields)
 }
 
-/// Whether the record is the one that a file begins with.
-pub fn is_header(fields: &ByteRecord) -> bool
-    ensures { result ≡ is_header (fields_of fields.now) }
+/// Whether the record begins with the names of the eight columns that every file has.
+fn names_eight(fields: &ByteRecord) -> bool
+    ensures { result ≡ names_eight (fields_of fields.now) }
 {
-    fields.len() == 8
-        && is(column(fields, 0), b"key")
+    is(column(fields, 0), b"key")
         && is(column(fields, 1), b"kind")
         && is(column(fields, 2), b"members")
         && is(column(fields, 3), b"owners")
@@ -288,4 +335,27 @@ pub fn is_header(fields: &ByteRecord) -> bool
         && is(column(fields, 5), b"moderators")
         && is(column(fields, 6), b"bypass")
         && is(column(fields, 7), b"tell")
+}
+
+/// Whether the record has ten columns, of which the last two are those of forwards.
+fn names_ten(fields: &ByteRecord) -> bool
+    ensures { result ≡ names_ten (fields_of fields.now) }
+{
+    fields.len() == 10 && is(column(fields, 8), b"forward") && is(column(fields, 9), b"keep")
+}
+
+/// How many columns a file has that begins with this record, or None where none begins so.
+pub fn columns_of(fields: &ByteRecord) -> Option<usize>
+    ensures { result ≡ columns_of (fields_of fields.now) }
+{
+    if !names_eight(fields) {
+        return None;
+    }
+    if fields.len() == 8 {
+        return Some(8);
+    }
+    if names_ten(fields) {
+        return Some(10);
+    }
+    None
 }

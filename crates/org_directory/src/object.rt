@@ -32,4 +32,8 @@ pub struct Object {
     pub bypass: Items<u32>,
     /// Which senders are told of a refusal.
     pub tell: Tell,
+    /// Where mail to a mailbox goes on to.
+    pub forward: Option<u32>,
+    /// Whether a mailbox that forwards gets its mail too.
+    pub keep: bool,
 }

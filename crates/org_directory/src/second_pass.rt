@@ -1,7 +1,7 @@
 // The second pass: each key gets its place, unless a record names what it may not.
 ghost use Rattle.std.specs.Prelude.{◌≡◌, ◌<◌, ◌≤◌, IfOk, is_some, length, map};
 ghost use Rattle.std.specs.List.{list_all, list_any};
-ghost use Rattle.org_directory.specs.Reading.{are_known, fault_of, group_at, keys_of, names_group, names_well, place_in, place_or_0, placed, second_pass, Gives, both_passes};
+ghost use Rattle.org_directory.specs.Reading.{are_known, fault_of, first_place, group_at, keys_of, names_group, names_well, place_in, place_or_0, placed, second_pass, Gives, both_passes};
 ghost use Rattle.org_directory.specs.Drafts.{IsKept, taken_of};
 
 use crate::directory::Directory;
@@ -72,6 +72,7 @@ fn names_well(drafts: &Drafts, draft: &Draft) -> bool
         && are_known(&drafts.keys, &draft.moderators)
         && are_known(&drafts.keys, &draft.bypass)
         && !name_a_group(drafts, &draft.moderators)
+        && are_known(&drafts.keys, &draft.forward)
 }
 
 fn fault_of(drafts: &Drafts, draft: &Draft) -> Option<DirectoryFault>
@@ -123,6 +124,17 @@ fn places(alloc: Global, named: &Names, list: &Names) -> Result<Items<u32>, NoMe
     Ok(places)
 }
 
+/// The place of the key that a mailbox forwards to, if there is one.
+fn forward_place(named: &Names, forward: &Names) -> Option<u32>
+    requires { length named.now ≤ 20000 }
+    ensures { result ≡ first_place (map (place_or_0 named.now) forward.now) }
+{
+    if forward.len() == 0 {
+        return None;
+    }
+    Some(place_or_0(named, forward.name(0)))
+}
+
 /// The object, with places for keys.
 fn placed(alloc: Global, named: &Names, draft: Draft) -> Result<Object, NoMemory>
     requires { length named.now ≤ 20000 }
@@ -141,6 +153,8 @@ fn placed(alloc: Global, named: &Names, draft: Draft) -> Result<Object, NoMemory
         moderators,
         bypass,
         tell: draft.tell,
+        forward: forward_place(named, &draft.forward),
+        keep: draft.keep,
     })
 }
 

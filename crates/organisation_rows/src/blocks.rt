@@ -2,7 +2,7 @@
 use crate::asked::first;
 use crate::desk::{Block, Desk};
 use crate::escapes::{add_unescaped, unescaped};
-use crate::reading_rows::{HEADER, add_directory_verdict, add_rules_verdict};
+use crate::reading_rows::{FORWARDS_HEADER, HEADER, add_directory_verdict, add_rules_verdict};
 use crate::wrong::Wrong;
 use mail_names::Bytes;
 use org_directory::Directory;
@@ -13,6 +13,7 @@ use std::alloc::Global;
 pub fn open(alloc: Global, desk: &mut Desk, block: Block) -> Result<(), Wrong> {
     let header = match block {
         Block::Directory => HEADER,
+        Block::Forwards => FORWARDS_HEADER,
         Block::Rules => "",
     };
     desk.text = Bytes::of(alloc, header.as_bytes())?;
@@ -79,7 +80,7 @@ fn take_rules(alloc: Global, desk: &mut Desk, out: &mut String) -> Result<(), Wr
 pub fn close(alloc: Global, desk: &mut Desk, block: Block, out: &mut String) -> Result<(), Wrong> {
     desk.block = None;
     match block {
-        Block::Directory => take_directory(alloc, desk, out)?,
+        Block::Directory | Block::Forwards => take_directory(alloc, desk, out)?,
         Block::Rules => take_rules(alloc, desk, out)?,
     }
     out.push('\n')?;

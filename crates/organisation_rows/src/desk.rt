@@ -8,6 +8,8 @@ use std::alloc::Global;
 #[derive(Clone, Copy, Debug, PartialEq, Eq)]
 pub enum Block {
     Directory,
+    /// A directory with forwards.
+    Forwards,
     Rules,
 }
 

@@ -5,19 +5,22 @@ use crate::asked::{Asked, read_asked};
 use crate::escapes::{add_count, add_escaped};
 use crate::wrong::Wrong;
 use group_expand::{ExpandFault, Expansion, expand, expand_plainly};
-use mail_names::{Key, Steps};
+use mail_names::{How, Key, Step, Steps};
 use org_directory::Directory;
 use std::alloc::Global;
 use std::marker::Brand;
 use std::sync::ledger::{Blank, Ledger};
 
 // An end, and its route.
-fn add_way(out: &mut String, mark: &str, key: &Key, route: &[Key]) -> Result<(), Wrong> {
+fn add_way(out: &mut String, mark: &str, key: &Key, route: &[Step]) -> Result<(), Wrong> {
     out.push_str(mark)?;
     add_escaped(out, key.bytes())?;
-    for group in route {
-        out.push('<')?;
-        add_escaped(out, group.bytes())?;
+    for step in route {
+        out.push_str(match step.how {
+            How::Expanded => "<",
+            How::Forwarded => "<<",
+        })?;
+        add_escaped(out, step.key.bytes())?;
     }
     Ok(())
 }

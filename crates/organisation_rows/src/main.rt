@@ -8,22 +8,25 @@
 //! |---|---|
 //! | `# TEXT`, an empty line | nothing; it is printed as it is |
 //! | `directory`, then lines of CSV without the header, then `end` | the verdict; further rows ask of this directory, if it is one |
+//! | `forwards`, then such lines with a forward and whether the mailbox keeps, then `end` | the same of a directory with forwards |
 //! | `rules`, then lines of TOML, then `end` | the verdict; further rows ask of this rule book, if it is one |
 //! | `mail TEXT` | nothing: further rows ask of this message |
 //! | `header TEXT` | the verdict on a directory whose header is TEXT too |
 //! | `records TEXT` | the verdict on a directory of these records behind the header |
+//! | `forward-records TEXT` | the same behind the header of a directory with forwards |
 //! | `file TEXT` | the verdict on a rules file |
 //! | `rule KEYS` | the verdict on a rule that has a name and these keys |
 //! | `check TEXT` | what a check prints of the header and TEXT, and how it ends |
+//! | `check-forwards TEXT` | the same of the header of a directory with forwards and TEXT |
 //! | `check-whole TEXT` | the same of TEXT alone |
 //! | `size` | the number of objects |
 //! | `find KEY` | its object's place, its side, and whether mail can be delivered to it |
-//! | `members GROUP` | the places of its members |
+//! | `members GROUP` | the places of its members, or of a mailbox's forward |
 //! | `in-group GROUP KEY` | whether the key is in the group |
 //! | `needs-approval OBJECT SENDER` | whether the object needs approval |
-//! | `expand SENDER OPENED ROOTS` | the expansion: leaves, closed objects behind `!`, unknown roots behind `?`, each with its route, from the root down, behind `<` |
+//! | `expand SENDER OPENED ROOTS` | the expansion: leaves, closed objects behind `!`, unknown roots behind `?`, each with its route, from the root down, a group behind `<` and a mailbox that forwards behind `<<` |
 //! | `walk SENDER OPENED ROOTS` | the same where listing all paths takes too long |
-//! | `depths SENDER OPENED ROOTS` | how many groups each leaf's route has |
+//! | `depths SENDER OPENED ROOTS` | how many steps each leaf's route has |
 //! | `word WORD TEXT` | whether the word stands in the text |
 //! | `holds SENDER RECIPIENT TERM` | whether the term holds |
 //! | `applies SENDER RECIPIENT MOMENT KEYS` | whether a rule with these keys applies |

@@ -11,6 +11,10 @@ use std::alloc::Global;
 /// The header of a directory.
 pub const HEADER: &str = "key,kind,members,owners,moderated,moderators,bypass,tell\n";
 
+/// The header of a directory with forwards.
+pub const FORWARDS_HEADER: &str =
+    "key,kind,members,owners,moderated,moderators,bypass,tell,forward,keep\n";
+
 pub fn add_directory_verdict(
     out: &mut String,
     read: &Result<Directory, DirectoryFault>,
@@ -33,7 +37,7 @@ pub fn add_rules_verdict(
     Ok(())
 }
 
-/// The row `records TEXT`, and `header TEXT` with no header before it.
+/// The rows `records TEXT` and `forward-records TEXT`, and `header TEXT` with no header before it.
 pub fn records(alloc: Global, before: &str, row: &str, out: &mut String) -> Result<(), Wrong> {
     let text = unescaped(alloc, before, row)?;
     let read = Directory::read_csv(alloc, text.as_slice());
@@ -53,7 +57,7 @@ pub fn file(
     add_rules_verdict(out, &read)
 }
 
-/// The row `check TEXT`, and `check-whole TEXT` with no header before it.
+/// The rows `check TEXT` and `check-forwards TEXT`, and `check-whole TEXT` with no header before it.
 pub fn checked(alloc: Global, before: &str, row: &str, out: &mut String) -> Result<(), Wrong> {
     let text = unescaped(alloc, before, row)?;
     let mut source = MemorySource::new(text, 9, Bytes::new(alloc));

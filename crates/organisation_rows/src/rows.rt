@@ -2,7 +2,7 @@
 use crate::asked::first;
 use crate::desk::{Block, Desk};
 use crate::escapes::{add_count, unescaped};
-use crate::reading_rows::HEADER;
+use crate::reading_rows::{FORWARDS_HEADER, HEADER};
 use crate::rule_rows::RULE;
 use crate::wrong::Wrong;
 use crate::{
@@ -60,9 +60,11 @@ fn ask_text(
     match word {
         "header" => reading_rows::records(alloc, "", row, out)?,
         "records" => reading_rows::records(alloc, HEADER, row, out)?,
+        "forward-records" => reading_rows::records(alloc, FORWARDS_HEADER, row, out)?,
         "file" => reading_rows::file(alloc, directory, "", row, out)?,
         "rule" => reading_rows::file(alloc, directory, RULE, row, out)?,
         "check" => reading_rows::checked(alloc, HEADER, row, out)?,
+        "check-forwards" => reading_rows::checked(alloc, FORWARDS_HEADER, row, out)?,
         "check-whole" => reading_rows::checked(alloc, "", row, out)?,
         _ => return Ok(false),
     }
@@ -121,6 +123,9 @@ fn add_answered(alloc: Global, desk: &Desk, line: &str, out: &mut String) -> Res
 fn take_row(alloc: Global, desk: &mut Desk, line: &str, out: &mut String) -> Result<(), Wrong> {
     if line == "directory" {
         return blocks::open(alloc, desk, Block::Directory);
+    }
+    if line == "forwards" {
+        return blocks::open(alloc, desk, Block::Forwards);
     }
     if line == "rules" {
         return blocks::open(alloc, desk, Block::Rules);

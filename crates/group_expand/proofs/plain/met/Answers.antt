@@ -19,7 +19,7 @@ returns-clause-leaves c =
     let whole : filter (λ w. not (shut_by c.args.directory.now c.as_slice-2.result.now w.key)) c.into_vec.result.items ≡ leaves c.args.directory.now (is_closed c.args.directory.now (option_copied c.args.sender) c.args.opened.now) c.args.roots.now
     = ap (λ f. filter (λ w. not (f w.key)) c.into_vec.result.items) shut2
     ∙ (ap (λ ws. filter (λ w. not (is_closed c.args.directory.now (option_copied c.args.sender) c.args.opened.now w.key)) ws) items ∙ leaves-from c.args.directory.now (is_closed c.args.directory.now (option_copied c.args.sender) c.args.opened.now) c.args.roots.now) in
-    subst (λ x. IfOk c.parted.result (λ parts. parts.0 ≡ map leaf_of x)) whole c.parted.ensures.leaves
+    subst (λ x. IfOk c.parted.result (λ parts. parts.0 ≡ map (leaf_of c.args.directory.now) x)) whole c.parted.ensures.leaves
 
 pub returns-clause-closed : goal.returns-clause-closed
 returns-clause-closed c =
@@ -34,4 +34,4 @@ returns-clause-closed c =
     let whole : filter (λ w. shut_by c.args.directory.now c.as_slice-2.result.now w.key) c.into_vec.result.items ≡ closed_met c.args.directory.now (is_closed c.args.directory.now (option_copied c.args.sender) c.args.opened.now) c.args.roots.now
     = ap (λ f. filter (λ w. f w.key) c.into_vec.result.items) shut2
     ∙ (ap (λ ws. filter (λ w. is_closed c.args.directory.now (option_copied c.args.sender) c.args.opened.now w.key) ws) items ∙ closed-from c.args.directory.now (is_closed c.args.directory.now (option_copied c.args.sender) c.args.opened.now) c.args.roots.now) in
-    subst (λ x. IfOk c.parted.result (λ parts. parts.1 ≡ map closed_of x)) whole c.parted.ensures.closed
+    subst (λ x. IfOk c.parted.result (λ parts. parts.1 ≡ map (closed_of c.args.directory.now) x)) whole c.parted.ensures.closed

@@ -6,5 +6,5 @@ use Rattle.group_expand.proofs.plain.parted.Given as goal
 
 abbrev pub invariant-loop-way : goal.invariant-loop-way
 invariant-loop-way l =
-    (l.leaves ≡ map leaf_of (filter (λ w. not (shut_by l.directory l.table w.key)) l.yielded))
-    × (l.closed ≡ map closed_of (filter (λ w. shut_by l.directory l.table w.key) l.yielded))
+    (l.leaves ≡ map (leaf_of l.directory) (filter (λ w. not (shut_by l.directory l.table w.key)) l.yielded))
+    × (l.closed ≡ map (closed_of l.directory) (filter (λ w. shut_by l.directory l.table w.key) l.yielded))

@@ -16,7 +16,7 @@ returns-clause-leaves g c =
     let whole : filter (λ w. not (shuts c.args.directory.now c.first_ways.new.gates w.key)) c.into_vec.result.items ≡ leaves c.args.directory.now asked c.args.roots.now
     = ap (λ f. filter (λ w. not (f w.key)) c.into_vec.result.items) same
     ∙ (ap (λ ws. filter (λ w. not (asked w.key)) ws) items ∙ leaves-from c.args.directory.now asked c.args.roots.now) in
-    subst (λ x. IfOk c.parted.result (λ parts. parts.0 ≡ map leaf_of x)) whole c.parted.ensures.leaves
+    subst (λ x. IfOk c.parted.result (λ parts. parts.0 ≡ map (leaf_of c.args.directory.now) x)) whole c.parted.ensures.leaves
 
 pub returns-clause-closed : goal.returns-clause-closed
 returns-clause-closed g c =
@@ -27,4 +27,4 @@ returns-clause-closed g c =
     let whole : filter (λ w. shuts c.args.directory.now c.first_ways.new.gates w.key) c.into_vec.result.items ≡ closed_met c.args.directory.now asked c.args.roots.now
     = ap (λ f. filter (λ w. f w.key) c.into_vec.result.items) same
     ∙ (ap (λ ws. filter (λ w. asked w.key) ws) items ∙ closed-from c.args.directory.now asked c.args.roots.now) in
-    subst (λ x. IfOk c.parted.result (λ parts. parts.1 ≡ map closed_of x)) whole c.parted.ensures.closed
+    subst (λ x. IfOk c.parted.result (λ parts. parts.1 ≡ map (closed_of c.args.directory.now) x)) whole c.parted.ensures.closed

@@ -6,6 +6,6 @@ use Rattle.group_expand.proofs.routes.parted.Given as goal
 
 abbrev pub invariant-loop-way : goal.invariant-loop-way
 invariant-loop-way l =
-    (l.leaves ≡ map leaf_of (filter (λ w. not (shuts l.directory l.initial.gates w.key)) l.yielded))
-    × (l.closed ≡ map closed_of (filter (λ w. shuts l.directory l.initial.gates w.key) l.yielded))
+    (l.leaves ≡ map (leaf_of l.directory) (filter (λ w. not (shuts l.directory l.initial.gates w.key)) l.yielded))
+    × (l.closed ≡ map (closed_of l.directory) (filter (λ w. shuts l.directory l.initial.gates w.key) l.yielded))
     × (ShutsSame l.directory l.initial.gates l.gates)
