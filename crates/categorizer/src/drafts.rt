@@ -7,13 +7,12 @@ use crate::reports::add_reports;
 use journal_report::Why;
 use journal_rules::Taken;
 use mail_names::{
-    ApprovalName, Bytes, ItemName, Items, Key, LAST_MOMENT, Mark, NoMemory, copied_keys,
-    short_count,
+    ApprovalName, Bytes, ItemName, Items, Key, LAST_MOMENT, Mark, NoMemory, SharedBytes,
+    copied_keys, short_count,
 };
 use mail_notices::{Notice, notice};
 use mail_plan::{Hold, ItemKind};
 use moderation::APPROVAL_TIME;
-use rule_engine::SharedText;
 use std::alloc::Global;
 
 /// The name of an item of a release.
@@ -35,14 +34,14 @@ fn text_at(
     place: usize,
     to: &[Key],
     what: &Notice,
-) -> Result<SharedText, NoMemory>
+) -> Result<SharedBytes, NoMemory>
     requires { letter.now.made ≤ LAST_MOMENT }
     ensures { IfOk result (λ text. text ≡ text_at letter.now place to.now what.now) }
 {
     let place = short_count(place)?;
     let name = name_at(letter.about.number, letter.release, place);
     let text = notice(alloc, &name, to, letter.made, &letter.about, what)?;
-    SharedText::new(alloc, text)
+    SharedBytes::new(alloc, text)
 }
 
 fn versions(alloc: Global, sends: &[Send]) -> Result<Items<Draft>, NoMemory>
@@ -78,7 +77,7 @@ fn asked(alloc: Global, letter: &Letter, gate: u32, hold: &Hold) -> Result<Notic
 // Adds the request for each moderator.
 fn add_asked(
     alloc: Global,
-    text: &SharedText,
+    text: &SharedBytes,
     moderators: &[Key],
     drafts: &mut Items<Draft>,
 ) -> Result<(), NoMemory>

@@ -1,10 +1,10 @@
 // What a release is made of.
 use group_expand::Leaf;
 use journal_report::Why;
-use mail_names::{Bytes, Gate, Items, Key};
+use mail_names::{Bytes, Gate, Items, Key, SharedBytes};
 use mail_notices::About;
 use mail_plan::{Hold, ItemKind};
-use rule_engine::{RuleOutcome, SharedText};
+use rule_engine::RuleOutcome;
 
 /// A leaf, and what the rules make of it.
 #[derive(Drop)]
@@ -18,7 +18,7 @@ pub struct Judged {
 pub struct Send {
     pub target: Key,
     pub why: Why,
-    pub text: SharedText,
+    pub text: SharedBytes,
 }
 
 /// A leaf that a rule rejects with the code `5.7.CODE` and these words.
@@ -81,5 +81,5 @@ pub struct Draft {
     pub folder: Key,
     pub kind: ItemKind,
     pub why: Why,
-    pub text: SharedText,
+    pub text: SharedBytes,
 }

@@ -7,9 +7,8 @@ use crate::drafts::name_at;
 use crate::parts::{Draft, Letter, Send};
 use journal_report::{Line, ReportHead, Why, report};
 use journal_rules::{Taken, mailboxes};
-use mail_names::{Bytes, Items, Key, LAST_MOMENT, NoMemory, short_count};
+use mail_names::{Bytes, Items, Key, LAST_MOMENT, NoMemory, SharedBytes, short_count};
 use mail_plan::ItemKind;
-use rule_engine::SharedText;
 use std::alloc::Global;
 
 fn targets_of(alloc: Global, sends: &[Send]) -> Result<Items<Key>, NoMemory>
@@ -113,7 +112,7 @@ fn report_at(
     let head = head_at(alloc, letter, sender, short_count(place)?, &taken.mailbox)?;
     let lines = lines_at(alloc, sends, taken.targets.as_slice())?;
     let original = letter.about.original.as_slice();
-    let text = SharedText::new(alloc, report(alloc, &head, lines.as_slice(), original)?)?;
+    let text = SharedBytes::new(alloc, report(alloc, &head, lines.as_slice(), original)?)?;
     Ok(Draft {
         folder: taken.mailbox.copy(alloc)?,
         kind: ItemKind::Report,

@@ -12,9 +12,9 @@ ghost use Rattle.hub_core.specs.Standing.{refused_told, decided_told};
 
 use crate::asking::Asking;
 use crate::live::Live;
-use crate::queue::{QueuedItem, SharedBytes};
+use crate::queue::QueuedItem;
 use crate::stage::Stage;
-use mail_names::{ApprovalName, Bytes, ItemName, Key, LAST_MOMENT, Mark, NoMemory};
+use mail_names::{ApprovalName, Bytes, ItemName, Key, LAST_MOMENT, Mark, NoMemory, SharedBytes};
 use mail_notices::{About, Notice, notice};
 use mail_plan::Planner;
 use mail_submission::Submission;

@@ -19,6 +19,6 @@ pub use command::{Command, Reply, StepFault};
 pub use limits::Limits;
 pub use live::{Live, TaskName};
 pub use part::{Difference, Part};
-pub use queue::{QueuedItem, SharedBytes};
+pub use queue::QueuedItem;
 pub use stage::Stage;
 pub use state::State;

@@ -5,50 +5,10 @@ ghost use Rattle.hub_core.specs.declared.queue.QueuedItem.{QueuedItem};
 ghost use Rattle.mail_names.specs.Names.{mark_number, same_name};
 ghost use Rattle.hub_core.specs.Standing.{is_named, without, queued};
 
-use mail_names::{Bytes, ItemName, Items, Key, NoMemory, same_name};
+use mail_names::{Bytes, ItemName, Items, Key, NoMemory, SharedBytes, same_name};
 use mail_plan::Item;
 use std::alloc::Global;
 use std::collections::VecDeque;
-use std::marker::Model;
-use std::sync::Arc;
-
-/// Octets that several items share. Contracts see them as a list of numbers.
-#[derive(Drop)]
-pub struct SharedBytes {
-    shared: Arc<Bytes>,
-}
-
-impl Model for SharedBytes {
-    ghost use Rattle.std.specs.Prelude.{List, ℕ};
-    ghost use Rattle.std.specs.Arc.{arc_value};
-
-    ghost Value = { List ℕ };
-
-    ghost view = { λ s. arc_value s.shared };
-}
-
-impl SharedBytes {
-    pub fn new(alloc: Global, bytes: Bytes) -> Result<SharedBytes, NoMemory>
-        ensures { IfOk result (λ s. s ≡ bytes) }
-    {
-        let shared = Arc::new(alloc, bytes)?;
-        Ok(SharedBytes { shared })
-    }
-
-    /// The same bytes, for one more owner.
-    pub fn share(&self) -> Result<SharedBytes, NoMemory>
-        ensures { IfOk result (λ s. s ≡ self.now) }
-    {
-        let shared = self.shared.clone()?;
-        Ok(SharedBytes { shared })
-    }
-
-    pub fn as_slice(&self) -> &[u8]
-        ensures { result.now ≡ self.now }
-    {
-        self.shared.as_slice()
-    }
-}
 
 /// An item of a release, with its text.
 #[derive(Drop)]

@@ -11,6 +11,7 @@ mod key;
 pub mod laws;
 mod name;
 mod route;
+mod shared;
 mod steps;
 
 pub use bytes::{Bytes, NoMemory};
@@ -21,4 +22,5 @@ pub use items::Items;
 pub use key::{Key, NameFault, copied_keys, lowered};
 pub use name::{ApprovalName, ItemName, Mark, mark_number, same_name};
 pub use route::{How, Step, copied_steps, has_forward, keys_of_steps};
+pub use shared::SharedBytes;
 pub use steps::Steps;

@@ -7,7 +7,6 @@ pub mod laws;
 mod leaves;
 mod recipient;
 mod sets;
-mod shared_text;
 mod sharing;
 mod texts;
 
@@ -16,5 +15,4 @@ pub use forking::{Fork, forks};
 pub use leaves::{Fate, Run, SideCopy, run_rules};
 pub use recipient::{End, MadeCopy, Progress, RuleOutcome, Traced, judge, trace};
 pub use sets::outcomes;
-pub use shared_text::SharedText;
 pub use texts::Texts;

@@ -9,9 +9,8 @@ ghost use Rattle.rule_engine.specs.Edits.{is_edit, edit_if, action_edits, rule_e
 ghost use Rattle.rule_engine.specs.Fate.{stage, and_then, after_stop, side, is_one_of, now, with_copy, after_effect, disclaim, act, after_actions, after_rule, fate};
 
 use crate::edit::{EditAt, is_edit};
-use crate::shared_text::SharedText;
 use mail_message::{Message, Place};
-use mail_names::{Bytes, Gate, Items, Key, NoMemory};
+use mail_names::{Bytes, Gate, Items, Key, NoMemory, SharedBytes};
 use org_directory::Directory;
 use rule_match::applies;
 use rule_terms::{Action, Fallback, Rule};
@@ -21,7 +20,7 @@ use std::alloc::Global;
 #[derive(Drop)]
 pub struct MadeCopy {
     pub target: Key,
-    pub text: SharedText,
+    pub text: SharedBytes,
     pub rule: u32,
 }
 
@@ -30,12 +29,12 @@ pub struct MadeCopy {
 pub enum End {
     /// It gets the text.
     Keep {
-        text: SharedText,
+        text: SharedBytes,
     },
     /// The target gets the text.
     Redirect {
         target: Key,
-        text: SharedText,
+        text: SharedBytes,
         rule: u32,
     },
     /// It is rejected with the code `5.7.CODE` and these words.
@@ -108,10 +107,10 @@ pub fn side(before: bool) -> Place
 }
 
 // The text at this point.
-pub fn text_now(alloc: Global, progress: &Progress) -> Result<SharedText, NoMemory>
+pub fn text_now(alloc: Global, progress: &Progress) -> Result<SharedBytes, NoMemory>
     ensures { IfOk result (λ text. text ≡ now progress.now) }
 {
-    SharedText::new(alloc, progress.message.bytes(alloc)?)
+    SharedBytes::new(alloc, progress.message.bytes(alloc)?)
 }
 
 fn add_copy(alloc: Global, rule: u32, target: &Key, progress: &mut Progress) -> Result<(), NoMemory>

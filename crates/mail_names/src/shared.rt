@@ -1,18 +1,18 @@
-// Texts that several outcomes hold.
+// Octets that several owners hold.
 ghost use Rattle.std.specs.Prelude.{◌≡◌, IfOk};
 
-use mail_names::{Bytes, NoMemory};
+use crate::{Bytes, NoMemory};
 use std::alloc::Global;
 use std::marker::Model;
 use std::sync::Arc;
 
-/// Octets that several recipients share. Contracts see them as a list of numbers.
+/// Octets that several owners share. Contracts see them as a list of numbers.
 #[derive(Drop)]
-pub struct SharedText {
+pub struct SharedBytes {
     shared: Arc<Bytes>,
 }
 
-impl Model for SharedText {
+impl Model for SharedBytes {
     ghost use Rattle.std.specs.Prelude.{List, ℕ};
     ghost use Rattle.std.specs.Arc.{arc_value};
 
@@ -21,21 +21,21 @@ impl Model for SharedText {
     ghost view = { λ s. arc_value s.shared };
 }
 
-impl SharedText {
+impl SharedBytes {
     /// Takes the bytes over.
-    pub fn new(alloc: Global, bytes: Bytes) -> Result<SharedText, NoMemory>
+    pub fn new(alloc: Global, bytes: Bytes) -> Result<SharedBytes, NoMemory>
         ensures { IfOk result (λ s. s ≡ bytes) }
     {
         let shared = Arc::new(alloc, bytes)?;
-        Ok(SharedText { shared })
+        Ok(SharedBytes { shared })
     }
 
     /// The same bytes, for one more owner. It copies none of them.
-    pub fn share(&self) -> Result<SharedText, NoMemory>
+    pub fn share(&self) -> Result<SharedBytes, NoMemory>
         ensures { IfOk result (λ s. s ≡ self.now) }
     {
         let shared = self.shared.clone()?;
-        Ok(SharedText { shared })
+        Ok(SharedBytes { shared })
     }
 
     /// The bytes. It takes no memory.
