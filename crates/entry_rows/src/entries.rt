@@ -82,9 +82,15 @@ fn add_moment(alloc: Global, out: &mut Bytes, moment: u64) -> Result<(), NoMemor
     add_number(alloc, out, moment)
 }
 
-fn add_delivered(alloc: Global, out: &mut Bytes, name: &ItemName) -> Result<(), NoMemory> {
-    out.add(b"delivered ")?;
+// What happened to an item: this word, and the item's name.
+fn add_named(alloc: Global, out: &mut Bytes, word: &[u8], name: &ItemName) -> Result<(), NoMemory> {
+    out.add(word)?;
     out.add(name.text(alloc)?.as_slice())
+}
+
+fn add_forgot(alloc: Global, out: &mut Bytes, number: u64) -> Result<(), NoMemory> {
+    out.add(b"forgot ")?;
+    add_number(alloc, out, number)
 }
 
 fn add_entry(alloc: Global, out: &mut Bytes, entry: &Entry) -> Result<(), NoMemory> {
@@ -103,7 +109,10 @@ fn add_entry(alloc: Global, out: &mut Bytes, entry: &Entry) -> Result<(), NoMemo
             moment,
         } => add_decided(alloc, out, approval, by, *verdict, *moment),
         Entry::Moment { moment } => add_moment(alloc, out, *moment),
-        Entry::Delivered { name } => add_delivered(alloc, out, name),
+        Entry::Delivered { name } => add_named(alloc, out, b"delivered ", name),
+        Entry::Delayed { name } => add_named(alloc, out, b"delayed ", name),
+        Entry::Ended { name } => add_named(alloc, out, b"ended ", name),
+        Entry::Forgot { number } => add_forgot(alloc, out, *number),
     }
 }
 

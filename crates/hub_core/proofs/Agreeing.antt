@@ -343,6 +343,9 @@ live-step setup h (entries.Decided name by verdicts.Reject moment) c is =
 live-step setup h (entries.Moment moment) c is =
     are-mapped setup 1 (expired_mail moment) (standing setup h).live (past setup h).accepted (λ number mail a of. expired-is setup moment number mail a of) is.live
 live-step setup h (entries.Delivered name) c is = is.live
+live-step setup h (entries.Delayed name) c is = is.live
+live-step setup h (entries.Ended name) c is = is.live
+live-step setup h (entries.Forgot number) c is = is.live
 
 epoch-step : (setup : Setup) (s : Standing) (p : Past) (e : Entry) → s.epoch ≡ p.epoch → (state_after setup s e).epoch ≡ (past_after setup p e).epoch
 epoch-step setup s p (entries.Organised d r) same = ap (λ (n : ℕ). n + 1) same
@@ -351,6 +354,9 @@ epoch-step setup s p (entries.Categorised n r plan) same = same
 epoch-step setup s p (entries.Decided name by verdict moment) same = same
 epoch-step setup s p (entries.Moment moment) same = same
 epoch-step setup s p (entries.Delivered name) same = same
+epoch-step setup s p (entries.Delayed name) same = same
+epoch-step setup s p (entries.Ended name) same = same
+epoch-step setup s p (entries.Forgot number) same = same
 
 newest-step : (setup : Setup) (s : Standing) (p : Past) (e : Entry) → s.newest ≡ p.org → (state_after setup s e).newest ≡ (past_after setup p e).org
 newest-step setup s p (entries.Organised d r) same = refl
@@ -359,6 +365,9 @@ newest-step setup s p (entries.Categorised n r plan) same = same
 newest-step setup s p (entries.Decided name by verdict moment) same = same
 newest-step setup s p (entries.Moment moment) same = same
 newest-step setup s p (entries.Delivered name) same = same
+newest-step setup s p (entries.Delayed name) same = same
+newest-step setup s p (entries.Ended name) same = same
+newest-step setup s p (entries.Forgot number) same = same
 
 abbrev AgreesAt : Setup → List Entry → Type 0
 AgreesAt setup h = Agrees setup (standing setup h) (past setup h)

@@ -123,6 +123,9 @@ categorised-stays setup s (entries.Decided approval by verdict m) n r was =
 categorised-stays setup s (entries.Moment m) n r was =
     (expired_mail m was.0, get-map (expired_mail m) s.live (n - 1) was.0 was.1, expired-known m was.0 r was.2)
 categorised-stays setup s (entries.Delivered name) n r was = was
+categorised-stays setup s (entries.Delayed name) n r was = was
+categorised-stays setup s (entries.Ended name) n r was = was
+categorised-stays setup s (entries.Forgot number) n r was = was
 
 uncategorised-there : (s : Standing) (n r : ℕ) → is_uncategorised (mail_of s n) r ≡ true → (mail : LiveMail) × (slice_get s.live (n - 1) ≡ Some mail) × (waits mail r ≡ true)
 uncategorised-there s n r h = by (mail_of s n) refl h

@@ -1,6 +1,6 @@
 -- A list with one item changed.
 use Rattle.std.proofs.Common.{◌≡◌, ℕ, zero, suc, ◌+◌, ◌<◌, ◌≤◌, List, [], ◌∷◌, ◌++◌, length, get_or, set, take, drop, Option, Some, None, refl, ap, ◌∙◌, sym, arith}
-use Rattle.std.specs.Prelude.{map, slice_get}
+use Rattle.std.specs.Prelude.{map, slice_get, slice_set}
 use Rattle.hub_core.specs.Approvals.{changed_at, changed}
 
 module _ {X : Type 0} where
@@ -71,3 +71,18 @@ module _ {X : Type 0} where
   changed_to-all f (suc k) [] past = refl
   changed_to-all f zero (x ∷ xs) past = absurd (omega (arith, past))
   changed_to-all f (suc k) (x ∷ xs) past = ap (λ ys. f x ∷ ys) (changed_to-all f k xs (omega (arith, past)))
+
+  -- and as a loop writes it that asks for each place
+  changed_to-at : (f : X → X) (k : ℕ) (xs : List X) → k < length xs →
+      (x : X) × (slice_get (changed_to f k xs) k ≡ Some x) × (slice_set (changed_to f k xs) k (f x) ≡ changed_to f (suc k) xs)
+  changed_to-at f k [] within = absurd (omega (arith, within))
+  changed_to-at f zero (x ∷ xs) within = (x, refl, refl)
+  changed_to-at f (suc k) (x ∷ xs) within =
+      let (y, there, is) = changed_to-at f k xs (omega (arith, within)) in
+      (y, there, ap (λ ys. f x ∷ ys) is)
+
+  pub changed_to-place : (f : X → X) (k : ℕ) (xs items : List X) → items ≡ changed_to f k xs → k < length xs →
+      (x : X) × (slice_get items k ≡ Some x) × (slice_set items k (f x) ≡ changed_to f (k + 1) xs)
+  changed_to-place f k xs items so_far within =
+      let (x, there, is) = changed_to-at f k xs within in
+      (x, ap (λ l. slice_get l k) so_far ∙ there, ap (λ l. slice_set l k (f x)) so_far ∙ is ∙ ap (λ n. changed_to f n xs) (let next : suc k ≡ k + 1 = omega arith in next))

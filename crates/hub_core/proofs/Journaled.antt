@@ -296,6 +296,9 @@ entry-step setup laws n plans h (entries.Moment m) c is told =
     let entry = (let e : Entry = entries.Moment m in e) in
     none-more setup n _ plans _ (at-later setup n s.live (state_after setup s entry).live plans _ (λ r was. categorised-stays setup s entry n r was) told)
 entry-step setup laws n plans h (entries.Delivered name) c is told = none-more setup n _ plans _ told
+entry-step setup laws n plans h (entries.Delayed name) c is told = none-more setup n _ plans _ told
+entry-step setup laws n plans h (entries.Ended name) c is told = none-more setup n _ plans _ told
+entry-step setup laws n plans h (entries.Forgot number) c is told = none-more setup n _ plans _ told
 
 -- What more entries categorise stands behind what those before them did.
 listed : (plan : Release) (rest more : List Release) (b : Bool) → cond b (plan ∷ (rest ++ more)) (rest ++ more) ≡ cond b (plan ∷ rest) rest ++ more
@@ -311,6 +314,9 @@ categorised-more n (entries.Categorised number r plan ∷ h) more =
 categorised-more n (entries.Decided name by verdict m ∷ h) more = categorised-more n h more
 categorised-more n (entries.Moment m ∷ h) more = categorised-more n h more
 categorised-more n (entries.Delivered name ∷ h) more = categorised-more n h more
+categorised-more n (entries.Delayed name ∷ h) more = categorised-more n h more
+categorised-more n (entries.Ended name ∷ h) more = categorised-more n h more
+categorised-more n (entries.Forgot number ∷ h) more = categorised-more n h more
 
 abbrev Holds : Setup → ℕ → List Entry → Type 0
 Holds setup n h = ToldAt setup n (standing setup h).live (categorised_of n h) (slice_get (accepted setup h) (n - 1))

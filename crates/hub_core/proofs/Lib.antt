@@ -1,12 +1,16 @@
 pub mod Changing
 pub mod Places
 pub mod Removing
+pub mod Waits
 pub mod Found
 pub mod Sending
 pub mod Opened
 pub mod Agreeing
 pub mod Prescribed
 pub mod Settled
+pub mod Named
+pub mod Categorised
+pub mod Spent
 pub mod Unique
 pub mod Releasing
 pub mod Room
@@ -23,6 +27,5 @@ pub mod Judging
 pub mod Tasks
 mod Reporting
 mod Planned
-mod Categorised
 mod Journaled
 pub mod Offered

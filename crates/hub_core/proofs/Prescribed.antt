@@ -1,17 +1,21 @@
 -- The items that wait are prescribed, entry by entry.
 use Rattle.std.proofs.Common.{◌≡◌, ◌⊎◌, ℕ, zero, suc, ◌+◌, ◌-◌, ◌≤◌, Bool, true, false, cond, List, [], ◌∷◌, ◌++◌, length, Some, refl, ap, ◌∙◌, sym, subst, inl, inr, arith, append_assoc, append-nil, length-append}
-use Rattle.std.specs.Prelude.{fold, slice_get}
+use Rattle.std.specs.Prelude.{◌&&◌, fold, slice_get, map, Option, None}
 use Rattle.std.proofs.lemmas.Grind.{fold-append}
 use Rattle.mail_names.specs.declared.name.ItemName.{ItemName}
 use Rattle.moderation.specs.declared.approval.Verdict.TheVariants as verdicts
-use Rattle.mail_plan.specs.Planning.{Opening, gates_of}
+use Rattle.mail_plan.specs.Planning.{Opening, gates_of, is_release, made_at}
 use Rattle.log_entry.specs.declared.entry.Entry.{Entry}
 use Rattle.log_entry.specs.declared.entry.Entry.TheVariants as entries
 use Rattle.mail_plan.specs.declared.release.Release.{Release}
 use Rattle.hub_core.specs.declared.queue.QueuedItem.{QueuedItem}
 use Rattle.hub_core.specs.Setup.{Setup}
 use Rattle.hub_core.specs.Approvals.{changed}
-use Rattle.hub_core.specs.Standing.{Standing, start, standing, state_after, told_by, is_named, without, queued_all}
+use Rattle.hub_core.specs.declared.waiting.WaitingItem.{WaitingItem}
+use Rattle.hub_core.specs.Mail.{LiveMail, waits}
+use Rattle.hub_core.specs.Waiting.{is_named, items_in, without}
+use Rattle.hub_core.specs.Standing.{Standing, start, standing, state_after, told_by, mail_of, queued_all, released, waiting_of}
+use Rattle.hub_core.proofs.Waits.{items-append, items-met, items-more, items-released, items-told}
 use Rattle.hub_core.specs.Items.{Accepted, Past, no_past, past, past_after, accepted, release_for, opening_of, items_to, items_of, notices_from, items, Among, CarriesRelease, IsStep, AreSteps, IsHistory}
 use Rattle.hub_core.proofs.Opened.{release-more}
 use Rattle.hub_core.proofs.Places.{changed-tail}
@@ -30,12 +34,13 @@ among_either x [] ys h = inr h
 among_either x (y ∷ xs) ys (inl e) = inl (inl e)
 among_either x (y ∷ xs) ys (inr h) = elim (among_either x xs ys h) [ inl a ↦ inl (inr a) | inr b ↦ inr b ]
 
-kept : (x y : QueuedItem) (b : Bool) (ys zs : List QueuedItem) → (Among x zs → Among x ys) → Among x (cond b ys (y ∷ zs)) → Among x (y ∷ ys)
+kept : (x : QueuedItem) (y : WaitingItem) (b : Bool) (ys zs : List WaitingItem) → (Among x (items_in zs) → Among x (items_in ys)) → Among x (items_in (cond b ys (y ∷ zs))) →
+    Among x (items_in (y ∷ ys))
 kept x y true ys zs f h = inr h
 kept x y false ys zs f (inl e) = inl e
 kept x y false ys zs f (inr h) = inr (f h)
 
-among_without : (name : ItemName) (x : QueuedItem) (xs : List QueuedItem) → Among x (without name xs) → Among x xs
+among_without : (name : ItemName) (x : QueuedItem) (xs : List WaitingItem) → Among x (items_in (without name xs)) → Among x (items_in xs)
 among_without name x [] h = h
 among_without name x (y ∷ xs) h = kept x y (is_named name y) xs (without name xs) (among_without name x xs) h
 
@@ -131,6 +136,9 @@ older_items setup p (entries.Decided name by verdicts.Approve moment) x a =
 older_items setup p (entries.Decided name by verdicts.Reject moment) x a = a
 older_items setup p (entries.Moment m) x a = a
 older_items setup p (entries.Delivered n) x a = a
+older_items setup p (entries.Delayed n) x a = a
+older_items setup p (entries.Ended n) x a = a
+older_items setup p (entries.Forgot n) x a = a
 
 -- what is prescribed stays so
 pub older : (setup : Setup) (h : List Entry) (e : Entry) (x : QueuedItem) → Among x (items setup h) → Among x (items setup (h ++ e ∷ []))
@@ -157,27 +165,51 @@ told_item setup h e x a =
 
 -- what waits is prescribed
 abbrev Fine : Setup → List Entry → Type 0
-Fine setup h = (x : QueuedItem) → Among x (standing setup h).waiting → Among x (items setup h)
+Fine setup h = (x : QueuedItem) → Among x (items_in (standing setup h).waiting) → Among x (items setup h)
 
-old_or_told : (setup : Setup) (h : List Entry) (e : Entry) → Fine setup h → (x : QueuedItem) → Among x ((standing setup h).waiting ++ told_by setup (standing setup h) e) →
+old_or_told : (setup : Setup) (h : List Entry) (e : Entry) → Fine setup h → (x : QueuedItem) → Among x (items_in (standing setup h).waiting ++ told_by setup (standing setup h) e) →
     Among x (items setup (h ++ e ∷ []))
 old_or_told setup h e fine x a =
-    elim (among_either x (standing setup h).waiting (told_by setup (standing setup h) e) a) [
+    elim (among_either x (items_in (standing setup h).waiting) (told_by setup (standing setup h) e) a) [
       | inl old ↦ older setup h e x (fine x old)
       | inr new ↦ told_item setup h e x new
     ]
 
+among_same : (x : QueuedItem) (xs ys : List QueuedItem) → xs ≡ ys → Among x xs → Among x ys
+among_same x xs ys same a = subst (λ (zs : List QueuedItem). Among x zs) same a
+
+-- what a release makes wait is what it has
+among_released : (x : QueuedItem) (n r : ℕ) (plan : Release) (at : Option LiveMail) → Among x (items_in (released n r plan at)) → Among x (queued_all plan)
+among_released x n r plan None a = absurd a
+among_released x n r plan (Some mail) a = made (waits mail r && is_release n r plan) a
+  where
+    new : List WaitingItem
+    new = map (waiting_of (made_at mail.accepted_at mail.opened r) plan.texts) plan.items
+
+    made : (b : Bool) → Among x (items_in (cond b new [])) → Among x (queued_all plan)
+    made true h = among_same x (items_in new) (queued_all plan) (items-released (made_at mail.accepted_at mail.opened r) plan.texts plan.items) h
+    made false h = absurd h
+
 step_waiting : (setup : Setup) (h : List Entry) (e : Entry) → CarriesRelease setup h e → Fine setup h → (x : QueuedItem) →
-    Among x (state_after setup (standing setup h) e).waiting → Among x (items setup (h ++ e ∷ []))
+    Among x (items_in (state_after setup (standing setup h) e).waiting) → Among x (items setup (h ++ e ∷ []))
 step_waiting setup h (entries.Organised d r) c fine x a = older setup h (entries.Organised d r) x (fine x a)
 step_waiting setup h (entries.Accepted m s) c fine x a = older setup h (entries.Accepted m s) x (fine x a)
-step_waiting setup h (entries.Decided name by verdict m) c fine x a = old_or_told setup h (entries.Decided name by verdict m) fine x a
-step_waiting setup h (entries.Moment m) c fine x a = old_or_told setup h (entries.Moment m) fine x a
+step_waiting setup h (entries.Decided name by verdict m) c fine x a =
+    old_or_told setup h (entries.Decided name by verdict m) fine x (among_same x _ _ (items-more (standing setup h).waiting _ _ _) a)
+step_waiting setup h (entries.Moment m) c fine x a =
+    old_or_told setup h (entries.Moment m) fine x (among_same x _ _ (items-met m _ ∙ items-more (standing setup h).waiting _ _ _) a)
+step_waiting setup h (entries.Delayed n) c fine x a =
+    old_or_told setup h (entries.Delayed n) fine x (among_same x _ _ (items-told n _ ∙ items-more (standing setup h).waiting _ _ _) a)
+step_waiting setup h (entries.Ended n) c fine x a =
+    old_or_told setup h (entries.Ended n) fine x (among_same x _ _ (items-more (standing setup h).waiting _ _ _) (among_without n x _ a))
+step_waiting setup h (entries.Forgot n) c fine x a = older setup h (entries.Forgot n) x (fine x a)
 step_waiting setup h (entries.Delivered n) c fine x a = older setup h (entries.Delivered n) x (fine x (among_without n x (standing setup h).waiting a))
 step_waiting setup h (entries.Categorised n r p) c fine x a =
-    elim (among_either x (standing setup h).waiting (queued_all p) a) [
+    let s = standing setup h in
+    elim (among_either x (items_in s.waiting) (items_in (released n r p (mail_of s n))) (among_same x _ _ (items-append s.waiting (released n r p (mail_of s n))) a)) [
       | inl old ↦ older setup h (entries.Categorised n r p) x (fine x old)
-      | inr new ↦
+      | inr made ↦
+          let new = among_released x n r p (mail_of s n) made in
           older setup h (entries.Categorised n r p) x
           (among_left x (items_of setup 1 (accepted setup h)) (notices_from setup (start setup) h)
           (let at : n ≡ 1 + (n - 1) = (let some = c.1 in omega arith) in
@@ -187,7 +219,7 @@ step_waiting setup h (entries.Categorised n r p) c fine x a =
 
 step : (setup : Setup) (h : List Entry) (e : Entry) → CarriesRelease setup h e → Fine setup h → Fine setup (h ++ e ∷ [])
 step setup h e c fine x a =
-    step_waiting setup h e c fine x (subst (λ (s : Standing). Among x s.waiting) (fold-append (state_after setup) (start setup) h (e ∷ [])) a)
+    step_waiting setup h e c fine x (subst (λ (s : Standing). Among x (items_in s.waiting)) (fold-append (state_after setup) (start setup) h (e ∷ [])) a)
 
 steps : (setup : Setup) (before h : List Entry) → AreSteps setup before h → Fine setup before → Fine setup (before ++ h)
 steps setup before [] c fine = subst (λ (h : List Entry). Fine setup h) (sym (append-nil before)) fine
@@ -195,7 +227,7 @@ steps setup before (e ∷ h) c fine =
     subst (λ (all : List Entry). Fine setup all) (append_assoc before (e ∷ []) h) (steps setup (before ++ e ∷ []) h c.1 (step setup before e c.0.1 fine))
 
 -- what waits is prescribed
-pub prescribed : (setup : Setup) (h : List Entry) → IsHistory setup h → (x : QueuedItem) → Among x (standing setup h).waiting → Among x (items setup h)
+pub prescribed : (setup : Setup) (h : List Entry) → IsHistory setup h → (x : QueuedItem) → Among x (items_in (standing setup h).waiting) → Among x (items setup h)
 prescribed setup h c = steps setup [] h c (λ x a. absurd a)
 
 push : (setup : Setup) (before h : List Entry) (e : Entry) → AreSteps setup before h → IsStep setup (before ++ h) e → AreSteps setup before (h ++ e ∷ [])

@@ -5,17 +5,17 @@ use Rattle.std.proofs.lemmas.Bool.Decides.{Decides-eqb}
 use Rattle.mail_names.specs.declared.name.ItemName.{ItemName}
 use Rattle.mail_names.specs.declared.name.Mark.{Mark}
 use Rattle.mail_names.specs.declared.name.Mark.TheVariants as marks
-use Rattle.hub_core.specs.declared.queue.QueuedItem.{QueuedItem}
 use Rattle.mail_names.specs.Names.{mark_number, same_name}
-use Rattle.hub_core.specs.Standing.{is_named}
+use Rattle.hub_core.specs.declared.waiting.WaitingItem.{WaitingItem}
+use Rattle.hub_core.specs.Waiting.{is_named, items_in}
 use Rattle.hub_core.specs.Items.{Among}
 
-first : (p : QueuedItem → Bool) (y : QueuedItem) (ys : List QueuedItem) (x : QueuedItem) (b : Bool) → p y ≡ b → cond b (Some y) (find p ys) ≡ Some x →
-    (find p ys ≡ Some x → Among x ys × (p x ≡ true)) → Among x (y ∷ ys) × (p x ≡ true)
-first p y ys x true e h later = let same : x ≡ y = cc in (inl same, ap p same ∙ e)
+first : (p : WaitingItem → Bool) (y : WaitingItem) (ys : List WaitingItem) (x : WaitingItem) (b : Bool) → p y ≡ b → cond b (Some y) (find p ys) ≡ Some x →
+    (find p ys ≡ Some x → Among x.item (items_in ys) × (p x ≡ true)) → Among x.item (items_in (y ∷ ys)) × (p x ≡ true)
+first p y ys x true e h later = let same : x ≡ y = cc in (inl (ap (λ (w : WaitingItem). w.item) same), ap p same ∙ e)
 first p y ys x false e h later = let rest = later h in (inr rest.0, rest.1)
 
-found : (p : QueuedItem → Bool) (xs : List QueuedItem) (x : QueuedItem) → find p xs ≡ Some x → Among x xs × (p x ≡ true)
+found : (p : WaitingItem → Bool) (xs : List WaitingItem) (x : WaitingItem) → find p xs ≡ Some x → Among x.item (items_in xs) × (p x ≡ true)
 found p [] x h = absurd cc
 found p (y ∷ ys) x h = first p y ys x (p y) refl h (found p ys x)
 
@@ -53,5 +53,5 @@ name_is a b h =
     λ i. record { submission = s i; release = r i; place = p i; mark = m i }
 
 -- the item of a name that is found is one of those, and has it
-pub found_named : (name : ItemName) (xs : List QueuedItem) (x : QueuedItem) → find (is_named name) xs ≡ Some x → Among x xs × (x.name ≡ name)
-found_named name xs x h = let f = found (is_named name) xs x h in (f.0, name_is x.name name f.1)
+pub found_named : (name : ItemName) (xs : List WaitingItem) (x : WaitingItem) → find (is_named name) xs ≡ Some x → Among x.item (items_in xs) × (x.item.name ≡ name)
+found_named name xs x h = let f = found (is_named name) xs x h in (f.0, name_is x.item.name name f.1)

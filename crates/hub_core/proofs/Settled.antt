@@ -23,7 +23,7 @@ use Rattle.hub_core.specs.Setup.{Setup}
 use Rattle.hub_core.specs.Approvals.{Stage, changed, pends, asking_of, asks_in, stage_open, decided_asking, decided_stage, expired_asking, expired_stage}
 use Rattle.hub_core.specs.Mail.{LiveMail, freed, waits_in, waits, with_asks, categorised, asking_at, opened_by, decided_with, decided_mail, expired_mail, is_taken}
 use Rattle.hub_core.specs.Ending.{is_told, approval_name, end_name, end_notice, told, end_told, run_out_told, asks_told, stages_told, all_told}
-use Rattle.hub_core.specs.Standing.{Standing, state_after, mail_of, refused_told, decided_told, told_by}
+use Rattle.hub_core.specs.Standing.{Standing, state_after, mail_of, refused_told, decided_told, decision_told}
 use Rattle.hub_core.proofs.Agreeing.{asking-there, mail-there}
 use Rattle.hub_core.proofs.Places.{get-map, get-append, get-set, get-changed, get-changed-own}
 
@@ -178,6 +178,9 @@ settled-stays setup s (entries.Decided approval by verdict m) name is =
 settled-stays setup s (entries.Moment m) name is =
     (expired_mail m is.0, get-map (expired_mail m) s.live (name.submission - 1) is.0 is.1, expired-done m is.0 name.release name.place is.2)
 settled-stays setup s (entries.Delivered n) name is = is
+settled-stays setup s (entries.Delayed n) name is = is
+settled-stays setup s (entries.Ended n) name is = is
+settled-stays setup s (entries.Forgot n) name is = is
 
 -- all of these names are so
 abbrev pub All : (ItemName → Type 0) → List QueuedItem → Type 0
@@ -351,15 +354,15 @@ refusal-all P setup name by moment (Some mail) p = with (asking_at mail name) re
         subst (λ (o : Option Asking). All P (cond (is_taken (option_map (λ (asking : Asking). decide_answer asking.approval by moment) o)) (refused_told setup name by moment mail o) []))
         (sym e) (told-of there e (is_taken (option_map (λ (asking : Asking). decide_answer asking.approval by moment) there)) refl)
 
--- What an entry tells of, it ends.
-pub told-ends : (setup : Setup) (s : Standing) (e : Entry) → All (Ends s.live (state_after setup s e).live) (told_by setup s e)
-told-ends setup s (entries.Organised d r) = tt
-told-ends setup s (entries.Accepted m x) = tt
-told-ends setup s (entries.Categorised n r plan) = tt
-told-ends setup s (entries.Decided name by verdicts.Approve m) = tt
-told-ends setup s (entries.Decided name by verdicts.Reject m) =
+-- What a decision tells of, it ends.
+pub decision-ends : (setup : Setup) (s : Standing) (name : ApprovalName) (by : List ℕ) (verdict : Verdict) (m : ℕ) →
+    All (Ends s.live (changed (decided_mail name by verdict m) (name.submission - 1) s.live)) (decision_told setup s name by verdict m)
+decision-ends setup s name by verdicts.Approve m = tt
+decision-ends setup s name by verdicts.Reject m =
     refusal-all (Ends s.live (changed (decided_mail name by verdicts.Reject m) (name.submission - 1) s.live)) setup name by m (mail_of s name.submission)
     (λ mail asking there asks taken. refusal-ends s.live name by m mail asking (mail-there s name.submission mail there).1 asks taken)
-told-ends setup s (entries.Moment m) =
+
+-- and so does a turn
+pub moment-ends : (setup : Setup) (s : Standing) (m : ℕ) → All (Ends s.live (map (expired_mail m) s.live)) (all_told setup m 1 s.live)
+moment-ends setup s m =
     all-all (Ends s.live (map (expired_mail m) s.live)) setup m 1 s.live (λ k at r g mail e there out. run-out-ends setup m s.live k at r g mail e there out)
-told-ends setup s (entries.Delivered n) = tt

@@ -1,21 +1,19 @@
 -- No two items that are prescribed have one name.
-use Rattle.std.proofs.Common.{◌≡◌, ◌≢◌, ℕ, zero, suc, ◌+◌, ◌<◌, ◌≤◌, Bool, true, false, cond, List, [], ◌∷◌, ◌++◌, length, map, Option, Some, None, refl, ap, ◌∙◌, sym, subst, arith}
-use Rattle.std.specs.Prelude.{◌&&◌, ◌==◌, option_map}
-use Rattle.std.specs.Bool.{Decides}
+use Rattle.std.proofs.Common.{◌≡◌, ◌≢◌, ℕ, zero, suc, ◌+◌, ◌<◌, ◌≤◌, Bool, true, false, cond, List, [], ◌∷◌, length, Option, Some, None, refl, ap, ◌∙◌, sym, subst, inl, inr, arith}
+use Rattle.std.specs.Prelude.{option_map, find}
 use Rattle.std.specs.List.{AllPairs, IsDistinct}
-use Rattle.std.proofs.lemmas.Bool.Decides.{nat_tests, Decides-eqb}
-use Rattle.std.proofs.lemmas.Map.Keys.{IsDistinct-head, IsDistinct-tail, IsDistinct-cons}
+use Rattle.std.proofs.lemmas.Map.Keys.{IsDistinct-head, IsDistinct-tail}
 use Rattle.std.proofs.lemmas.Map.Made.{AllPairs-from_IsDistinct}
 use Rattle.mail_names.specs.declared.name.ApprovalName.{ApprovalName}
 use Rattle.mail_names.specs.declared.name.ItemName.{ItemName}
-use Rattle.mail_names.specs.declared.name.Mark.{Mark}
 use Rattle.mail_names.specs.declared.name.Mark.TheVariants as marks
 use Rattle.moderation.specs.Approval.{decide_answer, runs_out}
 use Rattle.moderation.specs.declared.approval.Verdict.TheVariants as verdicts
 use Rattle.mail_notices.specs.declared.kinds.Notice.{Notice}
 use Rattle.mail_notices.specs.declared.kinds.Notice.TheVariants as notices
-use Rattle.mail_plan.specs.Planning.{Input, is_at, is_plain, are_named, is_release, first_input, input_at}
-use Rattle.mail_plan.specs.declared.release.Item.{Item}
+use Rattle.journal_report.specs.declared.why.Why.{Why}
+use Rattle.mail_submission.specs.Submission.{Submitted}
+use Rattle.mail_plan.specs.Planning.{Input, are_named, is_release, first_input, input_at}
 use Rattle.log_entry.specs.declared.entry.Entry.{Entry}
 use Rattle.log_entry.specs.declared.entry.Entry.TheVariants as entries
 use Rattle.hub_core.specs.declared.asking.Asking.{Asking}
@@ -24,98 +22,16 @@ use Rattle.hub_core.specs.Setup.{Texts, Setup}
 use Rattle.hub_core.specs.Approvals.{Stage, asks_in}
 use Rattle.hub_core.specs.Mail.{LiveMail, asking_at, is_taken}
 use Rattle.hub_core.specs.Ending.{is_told, approval_name, end_notice, told, end_told, run_out_told, asks_told, stages_told, all_told}
-use Rattle.mail_names.specs.Names.{mark_number, same_name}
-use Rattle.hub_core.specs.Standing.{Standing, start, state_after, mail_of, queued, queued_all, refused_told, decided_told, told_by}
-use Rattle.hub_core.specs.Items.{Accepted, accepted, release_for, items_to, items_of, notices_from, items}
-use Rattle.hub_core.proofs.Sending.{both, name_is}
-use Rattle.hub_core.proofs.Settled.{names, Settled, settled-stays, All, all-both, run-out-all, asks-all, stages-all, all-all, Ends, told-ends}
-
--- none of these items has this name
-abbrev Misses : ItemName → List QueuedItem → Type 0
-Misses name items = All (λ (other : ItemName). same_name name other ≡ false) items
-
-same : (n : ℕ) → (n == n) ≡ true
-same n = grind (arith, nat_tests)
-
-own_name : (name : ItemName) → same_name name name ≡ true
-own_name name =
-    ap (λ t. t && ((name.release == name.release) && ((name.place == name.place) && (mark_number name.mark == mark_number name.mark)))) (same name.submission)
-    ∙ ap (λ t. t && ((name.place == name.place) && (mark_number name.mark == mark_number name.mark))) (same name.release)
-    ∙ ap (λ t. t && (mark_number name.mark == mark_number name.mark)) (same name.place) ∙ same (mark_number name.mark)
-
-name_decides : (a b : ItemName) → Decides (same_name a b) (a ≡ b)
-name_decides a b = (name_is a b, λ e. subst (λ (c : ItemName). same_name a c ≡ true) e (own_name a))
-
-differs : (a b : ItemName) → (a ≡ b → ⊥) → same_name a b ≡ false
-differs a b never = by (same_name a b) refl
-  where
-    by : (t : Bool) → same_name a b ≡ t → t ≡ false
-    by true e = absurd (never (name_is a b e))
-    by false e = refl
-
-none : IsDistinct same_name []
-unfolding IsDistinct
-none = tt
-
-single : (name : ItemName) → IsDistinct same_name (name ∷ [])
-single name = IsDistinct-cons same_name name [] tt none
-
-all-map : (P Q : ItemName → Type 0) → ((name : ItemName) → P name → Q name) → (xs : List QueuedItem) → All P xs → All Q xs
-all-map P Q f [] h = tt
-all-map P Q f (x ∷ xs) h = (f x.name h.0, all-map P Q f xs h.1)
-
-distinct_both : (xs ys : List QueuedItem) → IsDistinct same_name (names xs) → IsDistinct same_name (names ys) → All (λ (x : ItemName). Misses x ys) xs →
-    IsDistinct same_name (names (xs ++ ys))
-distinct_both [] ys h g apart = g
-distinct_both (x ∷ xs) ys h g apart =
-    IsDistinct-cons same_name x.name (names (xs ++ ys))
-    (all-both (λ (other : ItemName). same_name x.name other ≡ false) xs ys (IsDistinct-head same_name x.name (names xs) h) apart.0)
-    (distinct_both xs ys (IsDistinct-tail same_name x.name (names xs) h) g apart.1)
-
--- Names of two kinds, none of which is of both, differ.
-apart : (P Q : ItemName → Type 0) → ((a b : ItemName) → P a → Q b → a ≡ b → ⊥) → (xs ys : List QueuedItem) → All P xs → All Q ys → All (λ (x : ItemName). Misses x ys) xs
-apart P Q never xs ys p q = all-map P (λ (x : ItemName). Misses x ys) (λ a pa. all-map Q (λ (b : ItemName). same_name a b ≡ false) (λ b qb. differs a b (never a b pa qb)) ys q) xs p
-
--- the name of an item of a release, at this place or behind it
-record InRelease (n r low : ℕ) (name : ItemName) : Type 0 where
-  submission : name.submission ≡ n
-  release : name.release ≡ r
-  place : low ≤ name.place
-  mark : name.mark ≡ marks.Plain
-
-plain : (mark : Mark) → is_plain mark ≡ true → mark ≡ marks.Plain
-plain marks.Plain e = refl
-plain marks.Gate e = absurd (cc)
-plain marks.Delay e = absurd (cc)
-plain marks.Failure e = absurd (cc)
-
--- what a name at a place of a release is
-at_place : (n r place : ℕ) (name : ItemName) → is_at n r place name ≡ true →
-    (name.submission ≡ n) × (name.release ≡ r) × (name.place ≡ place) × (name.mark ≡ marks.Plain)
-at_place n r place name h =
-    let one = both _ _ h in
-    let two = both _ _ one.1 in
-    let three = both _ _ two.1 in
-    ((Decides-eqb name.submission n).0 one.0, (Decides-eqb name.release r).0 two.0, (Decides-eqb name.place place).0 three.0, plain name.mark three.1)
-
-in_release : (texts : List (List ℕ)) (n r place low : ℕ) (items : List Item) → low ≤ place → are_named n r place items ≡ true → All (InRelease n r low) (map (queued texts) items)
-in_release texts n r place low [] below named = tt
-in_release texts n r place low (item ∷ items) below named =
-    let parts = both _ _ named in
-    let at = at_place n r place item.name parts.0 in
-    let stands = at.2 in
-    (record { submission = at.0; release = at.1; place = omega arith; mark = at.3 }, in_release texts n r (place + 1) low items (omega arith) parts.1)
-
-places_distinct : (texts : List (List ℕ)) (n r place : ℕ) (items : List Item) → are_named n r place items ≡ true → IsDistinct same_name (names (map (queued texts) items))
-places_distinct texts n r place [] named = none
-places_distinct texts n r place (item ∷ items) named =
-    let parts = both _ _ named in
-    let at = at_place n r place item.name parts.0 in
-    IsDistinct-cons same_name item.name (names (map (queued texts) items))
-    (all-map (InRelease n r (place + 1)) (λ (b : ItemName). same_name item.name b ≡ false)
-    (λ b is. differs item.name b (λ e. (let places = ap (λ (x : ItemName). x.place) e in let stands = at.2 in let behind = is.place in omega arith)))
-    (map (queued texts) items) (in_release texts n r (place + 1) (place + 1) items (omega arith) parts.1))
-    (places_distinct texts n r (place + 1) items parts.1)
+use Rattle.mail_names.specs.Names.{same_name}
+use Rattle.hub_core.specs.declared.waiting.WaitingItem.{WaitingItem}
+use Rattle.hub_core.specs.Waiting.{is_named}
+use Rattle.hub_core.specs.Delivery.{delay_name, delay_notice, failure_name, failure_notice, of_version, to_sender}
+use Rattle.hub_core.specs.Standing.{Standing, start, state_after, mail_of, mail_in, queued_all, refused_told, decided_told, delayed_told, ended_told, told_by}
+use Rattle.hub_core.specs.Items.{Accepted, accepted, release_for, items_to, items_of, notices_from, items, Among}
+use Rattle.hub_core.proofs.Sending.{both}
+use Rattle.hub_core.proofs.Named.{Misses, InRelease, name_decides, differs, none, own_name, single, all-map, distinct_both, apart, in_release, places_distinct}
+use Rattle.hub_core.proofs.Spent.{Spent, Spends, Sound, sound-start, sound-stays, spent-stays, told-spends}
+use Rattle.hub_core.proofs.Settled.{names, All, all-both, run-out-all, asks-all, stages-all, all-all}
 
 -- the name of an item of the first releases, so many
 record InFirst (n count : ℕ) (name : ItemName) : Type 0 where
@@ -193,6 +109,30 @@ refusal-distinct setup name by moment (Some mail) = if-taken (is_taken (option_m
     if-taken true = refused-distinct setup name by moment mail (asking_at mail name)
     if-taken false = none
 
+sender-distinct : (own : ItemName) (moment : ℕ) (what : Notice) (submission : Submitted) (reverse : Option (List ℕ)) → IsDistinct same_name (names (to_sender own moment what submission reverse))
+sender-distinct own moment what submission None = none
+sender-distinct own moment what submission (Some sender) = single own
+
+version-distinct : (own : ItemName) (moment : ℕ) (what : Why → Notice) (mail : Option LiveMail) (version : Option Why) → IsDistinct same_name (names (of_version own moment what mail version))
+version-distinct own moment what None version = none
+version-distinct own moment what (Some mail) None = none
+version-distinct own moment what (Some mail) (Some why) = sender-distinct own moment (what why) mail.submission mail.submission.reverse
+
+delayed-distinct : (s : Standing) (at : Option WaitingItem) → IsDistinct same_name (names (delayed_told s at))
+delayed-distinct s None = none
+delayed-distinct s (Some w) = by w.told
+  where
+    notice : List QueuedItem
+    notice = of_version (delay_name w.item.name) s.moment (delay_notice w) (mail_in s w) w.version
+
+    by : (told : Bool) → IsDistinct same_name (names (cond told [] notice))
+    by true = none
+    by false = version-distinct (delay_name w.item.name) s.moment (delay_notice w) (mail_in s w) w.version
+
+ended-distinct : (s : Standing) (at : Option WaitingItem) → IsDistinct same_name (names (ended_told s at))
+ended-distinct s None = none
+ended-distinct s (Some w) = version-distinct (failure_name w.item.name) s.moment (failure_notice w s.moment) (mail_in s w) w.version
+
 entry-distinct : (setup : Setup) (s : Standing) (e : Entry) → IsDistinct same_name (names (told_by setup s e))
 entry-distinct setup s (entries.Organised d r) = none
 entry-distinct setup s (entries.Accepted m x) = none
@@ -201,36 +141,56 @@ entry-distinct setup s (entries.Decided name by verdicts.Approve m) = none
 entry-distinct setup s (entries.Decided name by verdicts.Reject m) = refusal-distinct setup name by m (mail_of s name.submission)
 entry-distinct setup s (entries.Moment m) = all-distinct setup m 1 s.live
 entry-distinct setup s (entries.Delivered n) = none
+entry-distinct setup s (entries.Delayed n) = delayed-distinct s (find (is_named n) s.waiting)
+entry-distinct setup s (entries.Ended n) = ended-distinct s (find (is_named n) s.waiting)
+entry-distinct setup s (entries.Forgot n) = none
 
--- What was decided or ended isn't told of again.
-settled-misses : (setup : Setup) (s : Standing) (h : List Entry) (name : ItemName) → Settled name s.live → Misses name (notices_from setup s h)
-settled-misses setup s [] name settled = tt
-settled-misses setup s (e ∷ h) name settled =
+-- What was told isn't told again.
+spent-misses : (setup : Setup) (s : Standing) (h : List Entry) (name : ItemName) → Sound s → Spent s name → Misses name (notices_from setup s h)
+spent-misses setup s [] name sound spent = tt
+spent-misses setup s (e ∷ h) name sound spent =
     all-both (λ (other : ItemName). same_name name other ≡ false) (told_by setup s e) (notices_from setup (state_after setup s e) h)
-    (all-map (Ends s.live (state_after setup s e).live) (λ (other : ItemName). same_name name other ≡ false)
-    (λ other ends. differs name other (λ same. ends.fresh (subst (λ (x : ItemName). Settled x s.live) same settled))) (told_by setup s e) (told-ends setup s e))
-    (settled-misses setup (state_after setup s e) h name (settled-stays setup s e name settled))
+    (all-map (Spends s (state_after setup s e)) (λ (other : ItemName). same_name name other ≡ false)
+    (λ other spends. differs name other (λ same. spends.fresh (subst (λ (x : ItemName). Spent s x) same spent))) (told_by setup s e) (told-spends setup s e sound))
+    (spent-misses setup (state_after setup s e) h name (sound-stays setup s e sound) (spent-stays setup s e name spent))
 
-notices-distinct : (setup : Setup) (s : Standing) (h : List Entry) → IsDistinct same_name (names (notices_from setup s h))
-notices-distinct setup s [] = none
-notices-distinct setup s (e ∷ h) =
+notices-distinct : (setup : Setup) (s : Standing) (h : List Entry) → Sound s → IsDistinct same_name (names (notices_from setup s h))
+notices-distinct setup s [] sound = none
+notices-distinct setup s (e ∷ h) sound =
     let later = state_after setup s e in
-    distinct_both (told_by setup s e) (notices_from setup later h) (entry-distinct setup s e) (notices-distinct setup later h)
-    (all-map (Ends s.live later.live) (λ (x : ItemName). Misses x (notices_from setup later h)) (λ name ends. settled-misses setup later h name ends.settled) (told_by setup s e)
-    (told-ends setup s e))
+    let still = sound-stays setup s e sound in
+    distinct_both (told_by setup s e) (notices_from setup later h) (entry-distinct setup s e) (notices-distinct setup later h still)
+    (all-map (Spends s later) (λ (x : ItemName). Misses x (notices_from setup later h)) (λ name spends. spent-misses setup later h name still spends.spent) (told_by setup s e)
+    (told-spends setup s e sound))
 
-notices-marked : (setup : Setup) (s : Standing) (h : List Entry) → All (λ (name : ItemName). name.mark ≡ marks.Gate) (notices_from setup s h)
-notices-marked setup s [] = tt
-notices-marked setup s (e ∷ h) =
+notices-marked : (setup : Setup) (s : Standing) (h : List Entry) → Sound s → All (λ (name : ItemName). name.mark ≡ marks.Plain → ⊥) (notices_from setup s h)
+notices-marked setup s [] sound = tt
+notices-marked setup s (e ∷ h) sound =
     let later = state_after setup s e in
-    all-both (λ (name : ItemName). name.mark ≡ marks.Gate) (told_by setup s e) (notices_from setup later h)
-    (all-map (Ends s.live later.live) (λ (name : ItemName). name.mark ≡ marks.Gate) (λ name ends. ends.mark) (told_by setup s e) (told-ends setup s e)) (notices-marked setup later h)
+    all-both (λ (name : ItemName). name.mark ≡ marks.Plain → ⊥) (told_by setup s e) (notices_from setup later h)
+    (all-map (Spends s later) (λ (name : ItemName). name.mark ≡ marks.Plain → ⊥) (λ name spends. spends.marked) (told_by setup s e) (told-spends setup s e sound))
+    (notices-marked setup later h (sound-stays setup s e sound))
 
-plain_gate : (mark other : Mark) → mark ≡ marks.Plain → other ≡ marks.Gate → mark ≡ other → ⊥
-plain_gate mark other p g e = never (sym p ∙ (e ∙ g))
+misses-among : (name : ItemName) (xs : List QueuedItem) (y : QueuedItem) → Misses name xs → Among y xs → same_name name y.name ≡ false
+misses-among name [] y misses b = absurd b
+misses-among name (z ∷ xs) y misses (inl e) = subst (λ (w : QueuedItem). same_name name w.name ≡ false) (sym e) misses.0
+misses-among name (z ∷ xs) y misses (inr b) = misses-among name xs y misses.1 b
+
+-- An item isn't among others that miss its name.
+not_among : (z y : QueuedItem) (xs : List QueuedItem) → Misses z.name xs → Among y xs → z.name ≡ y.name → ⊥
+not_among z y xs misses b same = never (sym (misses-among z.name xs y misses b) ∙ (ap (λ (name : ItemName). same_name z.name name) (sym same) ∙ own_name z.name))
   where
-    never : marks.Plain ≡ marks.Gate → ⊥
+    never : false ≡ true → ⊥
     never q = cc
+
+one_of : (xs : List QueuedItem) → IsDistinct same_name (names xs) → (x y : QueuedItem) → Among x xs → Among y xs → x.name ≡ y.name → x ≡ y
+one_of [] distinct x y a b same = absurd a
+one_of (z ∷ xs) distinct x y (inl p) (inl q) same = p ∙ sym q
+one_of (z ∷ xs) distinct x y (inl p) (inr b) same =
+    absurd (not_among z y xs (IsDistinct-head same_name z.name (names xs) distinct) b (ap (λ (w : QueuedItem). w.name) (sym p) ∙ same))
+one_of (z ∷ xs) distinct x y (inr a) (inl q) same =
+    absurd (not_among z x xs (IsDistinct-head same_name z.name (names xs) distinct) a (ap (λ (w : QueuedItem). w.name) (sym q) ∙ sym same))
+one_of (z ∷ xs) distinct x y (inr a) (inr b) same = one_of xs (IsDistinct-tail same_name z.name (names xs) distinct) x y a b same
 
 module _ (setup : Setup) (releases : AreReleases setup) where
   named : (n : ℕ) (a : Accepted) (r : ℕ) → are_named n r 0 (release_for setup n a r).items ≡ true
@@ -277,13 +237,18 @@ module _ (setup : Setup) (releases : AreReleases setup) where
       (λ x y first later e. (let numbers = ap (λ (name : ItemName). name.submission) e in let here = first.submission in let low = later.submission in omega arith))
       own (items_of setup (n + 1) all) (in-first n a (suc (length a.opened))) (in-later (n + 1) all))
 
-  -- of the items of any entries, no two have one name
-  pub names-differ : (history : List Entry) → AllPairs (λ (a b : ItemName). a ≢ b) (names (items setup history))
-  names-differ history =
+  names-distinct : (history : List Entry) → IsDistinct same_name (names (items setup history))
+  names-distinct history =
       let sent = items_of setup 1 (accepted setup history) in
       let notices = notices_from setup (start setup) history in
-      AllPairs-from_IsDistinct name_decides (names (items setup history))
-      (distinct_both sent notices (later-distinct 1 (accepted setup history)) (notices-distinct setup (start setup) history)
-      (apart (InLater 1) (λ (name : ItemName). name.mark ≡ marks.Gate)
-      (λ x y later gate e. plain_gate x.mark y.mark later.mark gate (ap (λ (name : ItemName). name.mark) e)) sent notices (in-later 1 (accepted setup history))
-      (notices-marked setup (start setup) history)))
+      distinct_both sent notices (later-distinct 1 (accepted setup history)) (notices-distinct setup (start setup) history (sound-start setup))
+      (apart (InLater 1) (λ (name : ItemName). name.mark ≡ marks.Plain → ⊥)
+      (λ x y later marked e. marked (ap (λ (name : ItemName). name.mark) (sym e) ∙ later.mark)) sent notices (in-later 1 (accepted setup history))
+      (notices-marked setup (start setup) history (sound-start setup)))
+
+  -- of the items of any entries, no two have one name
+  pub names-differ : (history : List Entry) → AllPairs (λ (a b : ItemName). a ≢ b) (names (items setup history))
+  names-differ history = AllPairs-from_IsDistinct name_decides (names (items setup history)) (names-distinct history)
+
+  pub one-item : (history : List Entry) (x y : QueuedItem) → Among x (items setup history) → Among y (items setup history) → x.name ≡ y.name → x ≡ y
+  one-item history x y a b same = one_of (items setup history) (names-distinct history) x y a b same

@@ -35,15 +35,19 @@ approval_name number release gate = record { submission = number; release = rele
 abbrev pub end_name : ApprovalName → ItemName
 end_name name = record { submission = name.submission; release = name.release; place = name.gate; mark = marks.Gate }
 
--- the notice of an approval's end, to the sender
-abbrev pub end_notice : ApprovalName → Submitted → List ℕ → ℕ → Notice → QueuedItem
-end_notice name submission sender moment what = record {
-  name = end_name name;
+-- a notice on a submission to its sender, by its name
+abbrev pub sender_notice : ItemName → Submitted → List ℕ → ℕ → Notice → QueuedItem
+sender_notice own submission sender moment what = record {
+  name = own;
   folder = sender;
   text =
-      notice_text (end_name name) (sender ∷ []) moment
-      (about_of name.submission (base_message name.submission submission.bytes) (base_text name.submission submission.bytes)) what;
+      notice_text own (sender ∷ []) moment
+      (about_of own.submission (base_message own.submission submission.bytes) (base_text own.submission submission.bytes)) what;
 }
+
+-- the notice of an approval's end, to the sender
+abbrev pub end_notice : ApprovalName → Submitted → List ℕ → ℕ → Notice → QueuedItem
+end_notice name submission sender moment what = sender_notice (end_name name) submission sender moment what
 
 abbrev pub told : Setup → ApprovalName → LiveMail → Asking → ℕ → Notice → Option (List ℕ) → List QueuedItem
 told setup name mail asking moment what None = []

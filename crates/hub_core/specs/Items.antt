@@ -65,6 +65,9 @@ past_after setup p (entries.Decided name by verdict moment) =
     record p { accepted = decided_past setup name verdict moment p.accepted }
 past_after setup p (entries.Moment moment) = p
 past_after setup p (entries.Delivered name) = p
+past_after setup p (entries.Delayed name) = p
+past_after setup p (entries.Ended name) = p
+past_after setup p (entries.Forgot number) = p
 
 abbrev pub past : Setup → List Entry → Past
 past setup history = fold (past_after setup) no_past history
@@ -88,7 +91,8 @@ abbrev pub notices_from : Setup → Standing → List Entry → List QueuedItem
 notices_from setup s [] = []
 notices_from setup s (entry ∷ history) = told_by setup s entry ++ notices_from setup (state_after setup s entry) history
 
--- the items that a history prescribes: those of releases, and the notices of approvals that were refused or ran out
+-- the items that a history prescribes: those of releases, and the notices of approvals that were refused or ran out and of
+-- versions that are late or were given up
 abbrev pub items : Setup → List Entry → List QueuedItem
 items setup history = items_of setup 1 (accepted setup history) ++ notices_from setup (start setup) history
 
@@ -106,6 +110,22 @@ IsDelivered name (entries.Accepted moment submission ∷ history) = IsDelivered 
 IsDelivered name (entries.Categorised number release plan ∷ history) = IsDelivered name history
 IsDelivered name (entries.Decided approval by verdict moment ∷ history) = IsDelivered name history
 IsDelivered name (entries.Moment moment ∷ history) = IsDelivered name history
+IsDelivered name (entries.Delayed other ∷ history) = IsDelivered name history
+IsDelivered name (entries.Ended other ∷ history) = IsDelivered name history
+IsDelivered name (entries.Forgot number ∷ history) = IsDelivered name history
+
+-- the history says that the item of this name was given up
+abbrev pub IsEnded : ItemName → List Entry → Type 0
+IsEnded name [] = ⊥
+IsEnded name (entries.Ended other ∷ history) = (name ≡ other) ⊎ IsEnded name history
+IsEnded name (entries.Organised directory rules ∷ history) = IsEnded name history
+IsEnded name (entries.Accepted moment submission ∷ history) = IsEnded name history
+IsEnded name (entries.Categorised number release plan ∷ history) = IsEnded name history
+IsEnded name (entries.Decided approval by verdict moment ∷ history) = IsEnded name history
+IsEnded name (entries.Moment moment ∷ history) = IsEnded name history
+IsEnded name (entries.Delivered other ∷ history) = IsEnded name history
+IsEnded name (entries.Delayed other ∷ history) = IsEnded name history
+IsEnded name (entries.Forgot number ∷ history) = IsEnded name history
 
 -- A Categorised entry carries the release of an accepted submission.
 abbrev pub CarriesRelease : Setup → List Entry → Entry → Type 0
@@ -117,6 +137,9 @@ CarriesRelease setup before (entries.Accepted moment submission) = Unit {0}
 CarriesRelease setup before (entries.Decided name by verdict moment) = Unit {0}
 CarriesRelease setup before (entries.Moment moment) = Unit {0}
 CarriesRelease setup before (entries.Delivered name) = Unit {0}
+CarriesRelease setup before (entries.Delayed name) = Unit {0}
+CarriesRelease setup before (entries.Ended name) = Unit {0}
+CarriesRelease setup before (entries.Forgot number) = Unit {0}
 
 -- An entry can stand behind this history.
 abbrev pub IsStep : Setup → List Entry → Entry → Type 0

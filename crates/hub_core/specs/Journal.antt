@@ -19,6 +19,9 @@ categorised_of number (entries.Accepted moment submission ∷ history) = categor
 categorised_of number (entries.Decided name by verdict moment ∷ history) = categorised_of number history
 categorised_of number (entries.Moment moment ∷ history) = categorised_of number history
 categorised_of number (entries.Delivered name ∷ history) = categorised_of number history
+categorised_of number (entries.Delayed name ∷ history) = categorised_of number history
+categorised_of number (entries.Ended name ∷ history) = categorised_of number history
+categorised_of number (entries.Forgot n ∷ history) = categorised_of number history
 
 -- the reports of releases to a mailbox
 abbrev pub reports_of : List ℕ → List Release → List (List ℕ)

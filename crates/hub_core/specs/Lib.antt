@@ -1,4 +1,5 @@
 pub mod Approvals
+pub mod Delivery
 pub mod Differing
 pub mod Ending
 pub mod Items
@@ -8,3 +9,4 @@ pub mod Repeats
 pub mod Replies
 pub mod Setup
 pub mod Standing
+pub mod Waiting

@@ -1,8 +1,7 @@
 -- What the hub answers.
-use Rattle.std.specs.Prelude.{ℕ, ◌+◌, true, false, if◌then◌else◌, List, length, slice_get, Option, Some, None}
+use Rattle.std.specs.Prelude.{ℕ, ◌+◌, Bool, true, false, if◌then◌else◌, List, length, find, slice_get, Option, Some, None}
 use Rattle.std.specs.List.{list_any}
 use Rattle.mail_names.specs.declared.name.ApprovalName.{ApprovalName}
-use Rattle.mail_names.specs.declared.name.ItemName.{ItemName}
 use Rattle.moderation.specs.declared.approval.Decision.{Decision}
 use Rattle.moderation.specs.declared.approval.Verdict.{Verdict}
 use Rattle.mail_plan.specs.Planning.{Input}
@@ -16,7 +15,8 @@ use Rattle.hub_core.specs.declared.part.Difference.{Difference}
 use Rattle.hub_core.specs.Setup.{Texts, Setup}
 use Rattle.hub_core.specs.Approvals.{Stage}
 use Rattle.hub_core.specs.Mail.{LiveMail, input_of}
-use Rattle.hub_core.specs.Standing.{Standing, now_of, same_texts, has_epoch, live_epochs, has_room, live_bytes, place_of_same, is_named, mail_of, decision_of}
+use Rattle.hub_core.specs.Standing.{Standing, now_of, same_texts, has_epoch, live_epochs, has_room, live_bytes, place_of_same, delays, ends, mail_of, decision_of}
+use Rattle.hub_core.specs.Waiting.{is_named}
 use Rattle.hub_core.specs.Differing.{first_difference}
 
 abbrev pub reply_other : Standing → Reply
@@ -72,8 +72,9 @@ reply_decision (Some decision) = replies.Decided decision
 abbrev pub reply_decide : Standing → ApprovalName → List ℕ → Verdict → ℕ → Reply
 reply_decide s name by verdict clock = reply_decision (decision_of s name by verdict (now_of s clock))
 
-abbrev pub reply_delivered : Standing → ItemName → Reply
-reply_delivered s name = if list_any (is_named name) s.waiting then replies.Done else replies.NotNow
+-- Where an item isn't in the state that a command asks for, it is refused.
+abbrev pub reply_done : Bool → Reply
+reply_done now = if now then replies.Done else replies.NotNow
 
 -- what is answered to a command, over a planner whose organisations have these texts
 abbrev pub reply_to : {T Org : Type 0} → (Org → Texts) → Setup → Standing → Command T Org → Reply
@@ -82,4 +83,6 @@ reply_to texts setup s (commands.Submit submission clock) = reply_submit s submi
 reply_to texts setup s (commands.Commit outcome) = reply_commit s outcome.input (texts outcome.org)
 reply_to texts setup s (commands.Decide approval by verdict clock) = reply_decide s approval by verdict clock
 reply_to texts setup s (commands.Moment clock) = replies.Done
-reply_to texts setup s (commands.Delivered name) = reply_delivered s name
+reply_to texts setup s (commands.Delivered name) = reply_done (list_any (is_named name) s.waiting)
+reply_to texts setup s (commands.Delayed name) = reply_done (delays s (find (is_named name) s.waiting))
+reply_to texts setup s (commands.Ended name) = reply_done (ends s (find (is_named name) s.waiting))

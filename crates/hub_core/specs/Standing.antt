@@ -1,20 +1,21 @@
 -- The state that a history leaves, and what it answers.
-use Rattle.std.specs.Prelude.{◌≡◌, ◌&&◌, ◌==◌, not, nat_le, nat_lt, ℕ, ◌+◌, ◌-◌, ◌%◌, min, max, Bool, true, false, if◌then◌else◌, List, [], ◌∷◌, ◌++◌, length, map, fold, position, slice_get, bytes_eq, unwrap_or, Option, Some, None, is_some, Result, Ok, Err}
+use Rattle.std.specs.Prelude.{◌≡◌, ◌&&◌, ◌==◌, not, nat_le, nat_lt, ℕ, ◌+◌, ◌-◌, ◌%◌, min, max, Bool, true, false, if◌then◌else◌, List, [], ◌∷◌, ◌++◌, length, map, fold, find, position, slice_get, bytes_eq, unwrap_or, Option, Some, None, is_some, Result, Ok, Err}
 use Rattle.std.specs.List.{list_any}
 use Rattle.mail_names.specs.Dates.{last_moment}
-use Rattle.mail_names.specs.Names.{same_name}
-use Rattle.mail_names.specs.declared.name.ItemName.{ItemName}
 use Rattle.mail_names.specs.declared.name.ApprovalName.{ApprovalName}
 use Rattle.moderation.specs.declared.approval.Decision.{Decision}
 use Rattle.moderation.specs.declared.approval.Verdict.{Verdict}
 use Rattle.moderation.specs.declared.approval.Verdict.TheVariants as verdicts
-use Rattle.mail_plan.specs.Planning.{Input, is_release}
+use Rattle.mail_plan.specs.Planning.{Input, is_release, is_version, made_at}
 use Rattle.mail_submission.specs.Submission.{Submitted, same_submission}
 use Rattle.mail_plan.specs.declared.release.Item.{Item}
 use Rattle.mail_plan.specs.declared.release.Release.{Release}
 use Rattle.log_entry.specs.declared.entry.Entry.{Entry}
 use Rattle.log_entry.specs.declared.entry.Entry.TheVariants as entries
+use Rattle.journal_report.specs.declared.why.Why.{Why}
 use Rattle.hub_core.specs.declared.queue.QueuedItem.{QueuedItem}
+use Rattle.hub_core.specs.declared.waiting.Due.TheVariants as dues
+use Rattle.hub_core.specs.declared.waiting.WaitingItem.{WaitingItem}
 use Rattle.hub_core.specs.declared.limits.Limits.{Limits}
 use Rattle.hub_core.specs.declared.command.StepFault.{StepFault}
 use Rattle.hub_core.specs.declared.command.StepFault.TheVariants as faults
@@ -22,8 +23,10 @@ use Rattle.hub_core.specs.declared.asking.Asking.{Asking}
 use Rattle.hub_core.specs.declared.live.TaskName.{TaskName}
 use Rattle.hub_core.specs.Setup.{Texts, Setup, first_org}
 use Rattle.hub_core.specs.Approvals.{Stage, changed, stage_waits}
-use Rattle.hub_core.specs.Mail.{LiveMail, new_mail, first_waiting, is_uncategorised, categorised, asking_at, decision_in, is_taken, decided_mail, expired_mail, mail_pends}
+use Rattle.hub_core.specs.Mail.{LiveMail, new_mail, first_waiting, waits, is_uncategorised, categorised, asking_at, decision_in, is_taken, decided_mail, expired_mail, mail_pends}
 use Rattle.hub_core.specs.Ending.{refusal_told, all_told}
+use Rattle.hub_core.specs.Waiting.{is_named, without, with_told, noticed, met}
+use Rattle.hub_core.specs.Delivery.{delay_told, failure_told, may_delay, may_end}
 
 -- what is kept of a history: the limits that it is held to, its greatest moment, the newest organisation with its epoch, the
 -- submissions, and the items that wait
@@ -33,7 +36,7 @@ pub record Standing : Type 0 where
   pub epoch : ℕ
   pub newest : Texts
   pub live : List LiveMail
-  pub waiting : List QueuedItem
+  pub waiting : List WaitingItem
 
 abbrev pub start : Setup → Standing
 start setup = record { limits = setup.limits; moment = 0; epoch = 0; newest = first_org; live = []; waiting = [] }
@@ -46,15 +49,6 @@ usual = record { log = 1099511627776; live = 100000; bytes = 2147483648; epochs 
 abbrev pub now_of : Standing → ℕ → ℕ
 now_of s clock = min (max clock s.moment) last_moment
 
--- the item has this name
-abbrev pub is_named : ItemName → QueuedItem → Bool
-is_named name item = same_name item.name name
-
--- the items without the first of this name
-abbrev pub without : ItemName → List QueuedItem → List QueuedItem
-without name [] = []
-without name (item ∷ items) = if is_named name item then items else item ∷ without name items
-
 -- the first submission that this one repeats
 abbrev pub place_of_same : Submitted → List LiveMail → Option ℕ
 place_of_same s live = position (λ (mail : LiveMail). same_submission mail.submission s) live
@@ -66,6 +60,21 @@ queued texts item = record { name = item.name; folder = item.folder; text = unwr
 -- the items of a release, with their texts
 abbrev pub queued_all : Release → List QueuedItem
 queued_all release = map (queued release.texts) release.items
+
+-- how a version comes to go where it goes
+abbrev pub version_in : Item → Option Why
+version_in item = if is_version item.kind then Some item.why else None
+
+-- an item of a release of this moment, as it comes to wait
+abbrev pub waiting_of : ℕ → List (List ℕ) → Item → WaitingItem
+waiting_of made texts item = record { item = queued texts item; made = made; version = version_in item; told = false; due = dues.First }
+
+-- the items of a release, as they come to wait where it is made
+abbrev pub released : ℕ → ℕ → Release → Option LiveMail → List WaitingItem
+released number release plan None = []
+released number release plan (Some mail) =
+    if waits mail release && is_release number release plan
+    then map (waiting_of (made_at mail.accepted_at mail.opened release) plan.texts) plan.items else []
 
 -- the submission of this number
 abbrev pub mail_of : Standing → ℕ → Option LiveMail
@@ -89,6 +98,20 @@ abbrev pub decision_told : Setup → Standing → ApprovalName → List ℕ → 
 decision_told setup s name by verdicts.Approve moment = []
 decision_told setup s name by verdicts.Reject moment = decided_told setup name by moment (mail_of s name.submission)
 
+-- the submission of an item
+abbrev pub mail_in : Standing → WaitingItem → Option LiveMail
+mail_in s w = mail_of s w.item.name.submission
+
+-- the notice that an item is late
+abbrev pub delayed_told : Standing → Option WaitingItem → List QueuedItem
+delayed_told s None = []
+delayed_told s (Some w) = delay_told s.moment (mail_in s w) w
+
+-- and that it was given up
+abbrev pub ended_told : Standing → Option WaitingItem → List QueuedItem
+ended_told s None = []
+ended_told s (Some w) = failure_told s.moment (mail_in s w) w
+
 -- the notices that an entry makes
 abbrev pub told_by : Setup → Standing → Entry → List QueuedItem
 told_by setup s (entries.Organised directory rules) = []
@@ -97,6 +120,9 @@ told_by setup s (entries.Categorised number release plan) = []
 told_by setup s (entries.Decided name by verdict moment) = decision_told setup s name by verdict moment
 told_by setup s (entries.Moment moment) = all_told setup moment 1 s.live
 told_by setup s (entries.Delivered name) = []
+told_by setup s (entries.Delayed name) = delayed_told s (find (is_named name) s.waiting)
+told_by setup s (entries.Ended name) = ended_told s (find (is_named name) s.waiting)
+told_by setup s (entries.Forgot number) = []
 
 -- the state after an entry
 abbrev pub state_after : Setup → Standing → Entry → Standing
@@ -105,16 +131,27 @@ state_after setup s (entries.Organised directory rules) =
 state_after setup s (entries.Accepted moment submission) =
     record s { moment = moment; live = s.live ++ new_mail submission moment s.epoch s.newest ∷ [] }
 state_after setup s (entries.Categorised number release plan) =
-    record s { live = changed (categorised release plan) (number - 1) s.live; waiting = s.waiting ++ queued_all plan }
+    record s { live = changed (categorised release plan) (number - 1) s.live; waiting = s.waiting ++ released number release plan (mail_of s number) }
 state_after setup s (entries.Decided name by verdict moment) =
     record s {
       moment = moment;
       live = changed (decided_mail name by verdict moment) (name.submission - 1) s.live;
-      waiting = s.waiting ++ decision_told setup s name by verdict moment;
+      waiting = s.waiting ++ map (noticed moment dues.First) (decision_told setup s name by verdict moment);
     }
 state_after setup s (entries.Moment moment) =
-    record s { moment = moment; live = map (expired_mail moment) s.live; waiting = s.waiting ++ all_told setup moment 1 s.live }
+    record s {
+      moment = moment;
+      live = map (expired_mail moment) s.live;
+      waiting = map (met moment) (s.waiting ++ map (noticed moment dues.Fresh) (all_told setup moment 1 s.live));
+    }
 state_after setup s (entries.Delivered name) = record s { waiting = without name s.waiting }
+state_after setup s (entries.Delayed name) =
+    record s {
+      waiting = with_told name (s.waiting ++ map (noticed s.moment dues.Made) (delayed_told s (find (is_named name) s.waiting)));
+    }
+state_after setup s (entries.Ended name) =
+    record s { waiting = without name (s.waiting ++ map (noticed s.moment dues.Made) (ended_told s (find (is_named name) s.waiting))) }
+state_after setup s (entries.Forgot number) = s
 
 -- the state of a history of a hub that is set up so
 abbrev pub standing : Setup → List Entry → Standing
@@ -144,8 +181,8 @@ with_own epochs None = epochs
 with_own epochs (Some mail) = with_epoch epochs mail.epoch
 
 -- with that of the submission of an item
-abbrev pub with_item : List LiveMail → List ℕ → QueuedItem → List ℕ
-with_item live epochs item = with_own epochs (slice_get live (item.name.submission - 1))
+abbrev pub with_item : List LiveMail → List ℕ → WaitingItem → List ℕ
+with_item live epochs w = with_own epochs (slice_get live (w.item.name.submission - 1))
 
 -- the epochs that are live: the newest, and those of the submissions with a release that waits to be categorised, with an
 -- approval that pends or with an item that waits
@@ -167,6 +204,14 @@ is_moment s moment = nat_le s.moment moment && nat_le moment last_moment
 abbrev pub is_lawful_org : Setup → Standing → Texts → Bool
 is_lawful_org setup s org = not (is_some (setup.fault_of org)) && (not (same_texts org s.newest) && has_epoch s)
 
+abbrev pub delays : Standing → Option WaitingItem → Bool
+delays s None = false
+delays s (Some w) = may_delay s.moment (mail_in s w) w
+
+abbrev pub ends : Standing → Option WaitingItem → Bool
+ends s None = false
+ends s (Some w) = may_end s.moment w
+
 -- whether an entry can stand behind a history of this state
 abbrev pub is_lawful : Setup → Standing → Entry → Bool
 is_lawful setup s (entries.Organised directory rules) = is_lawful_org setup s (record { directory = directory; rules = rules })
@@ -178,6 +223,9 @@ is_lawful setup s (entries.Decided name by verdict moment) =
     is_moment s moment && is_taken (decision_of s name by verdict moment)
 is_lawful setup s (entries.Moment moment) = is_moment s moment
 is_lawful setup s (entries.Delivered name) = list_any (is_named name) s.waiting
+is_lawful setup s (entries.Delayed name) = delays s (find (is_named name) s.waiting)
+is_lawful setup s (entries.Ended name) = ends s (find (is_named name) s.waiting)
+is_lawful setup s (entries.Forgot number) = false
 
 -- An approval pends.
 abbrev pub any_pends : Standing → Bool

@@ -31,6 +31,14 @@ pub enum Command<T: Planner> {
     Delivered {
         name: ItemName,
     },
+    /// The sender of an item is told that it is late.
+    Delayed {
+        name: ItemName,
+    },
+    /// An item is given up.
+    Ended {
+        name: ItemName,
+    },
 }
 
 /// What is answered.
@@ -58,7 +66,7 @@ pub enum Reply {
     /// What became of a decision.
     Decided { decision: Decision },
     Done,
-    /// No item of that name waits.
+    /// No item of that name waits, or it isn't one of which that can be said now.
     NotNow,
 }
 

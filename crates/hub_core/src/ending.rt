@@ -7,7 +7,7 @@ ghost use Rattle.mail_submission.specs.Base.{base_message, base_text};
 ghost use Rattle.hub_core.specs.declared.limits.Limits.{Limits};
 ghost use Rattle.hub_core.specs.Setup.{setup_of};
 ghost use Rattle.hub_core.specs.Mail.{asking_at, decision_in, is_taken};
-ghost use Rattle.hub_core.specs.Ending.{end_name, end_notice, end_told, run_out_told, asks_told, stages_told, all_told};
+ghost use Rattle.hub_core.specs.Ending.{end_name, sender_notice, end_told, run_out_told, asks_told, stages_told, all_told};
 ghost use Rattle.hub_core.specs.Standing.{refused_told, decided_told};
 
 use crate::asking::Asking;
@@ -43,20 +43,19 @@ fn about(alloc: Global, number: u64, submission: &Submission) -> Result<About, N
     About::of(alloc, number, &message, original)
 }
 
-// The notice of an approval's end, to the sender.
-fn end_notice(
+/// A notice of this name on a submission, to its sender.
+pub fn sender_notice(
     alloc: Global,
-    name: &ApprovalName,
+    own: ItemName,
     submission: &Submission,
     sender: &Key,
     moment: u64,
     what: &Notice,
 ) -> Result<QueuedItem, NoMemory>
     requires { moment ≤ LAST_MOMENT }
-    ensures { IfOk result (λ item. item ≡ end_notice name.now submission.now sender.now moment what.now) }
+    ensures { IfOk result (λ item. item ≡ sender_notice own submission.now sender.now moment what.now) }
 {
-    let about = about(alloc, name.submission, submission)?;
-    let own = end_name(name);
+    let about = about(alloc, own.submission, submission)?;
     let to = std::slice::from_ref(sender);
     let text = notice(alloc, &own, to, moment, &about, what)?;
     Ok(QueuedItem {
@@ -84,7 +83,8 @@ fn tell<T: Planner>(
         return Ok(());
     };
     if live.is_told(sender, asking.tell) {
-        told.push_back(end_notice(alloc, name, submission, sender, moment, what)?)?;
+        let own = end_name(name);
+        told.push_back(sender_notice(alloc, own, submission, sender, moment, what)?)?;
     }
     Ok(())
 }

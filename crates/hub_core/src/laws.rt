@@ -8,7 +8,7 @@ ghost use Rattle.log_entry.specs.Entries.{IsEntry};
 ghost use Rattle.hub_core.specs.declared.limits.Limits.{Limits};
 ghost use Rattle.hub_core.specs.declared.queue.QueuedItem.{QueuedItem};
 ghost use Rattle.hub_core.specs.Setup.{setup_of};
-ghost use Rattle.hub_core.specs.Items.{Accepted, items, IsHistory};
+ghost use Rattle.hub_core.specs.Items.{Accepted, items, Among, IsHistory};
 ghost use Rattle.hub_core.specs.Journal.{IsJournaled};
 
 use mail_plan::Planner;
@@ -17,6 +17,12 @@ use mail_plan::Planner;
 pub fn names_are_unique<T: Planner>()
     ensures { (limits : Limits) (history : List Entry) →
         AllPairs (λ (a b : ItemName). a ≢ b) (map (λ (item : QueuedItem). item.name) (items (setup_of T.means limits) history)) }
+{}
+
+/// Two items that entries prescribe under one name are one, be the entries lawful or not.
+pub fn a_name_is_of_one_item<T: Planner>()
+    ensures { (limits : Limits) (history : List Entry) (x y : QueuedItem) →
+        Among x (items (setup_of T.means limits) history) → Among y (items (setup_of T.means limits) history) → x.name ≡ y.name → x ≡ y }
 {}
 
 /// Over all releases of a submission, of whatever organisation and behind whatever gates, no two versions have one target.

@@ -3,6 +3,7 @@
 
 mod asking;
 mod command;
+mod delivery;
 mod digest;
 mod ending;
 pub mod laws;
@@ -13,6 +14,7 @@ mod queue;
 mod remembered;
 mod stage;
 mod state;
+mod waiting;
 
 pub use asking::Asking;
 pub use command::{Command, Reply, StepFault};
@@ -22,3 +24,4 @@ pub use part::{Difference, Part};
 pub use queue::QueuedItem;
 pub use stage::Stage;
 pub use state::State;
+pub use waiting::{Due, WaitingItem};

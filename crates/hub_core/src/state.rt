@@ -1,20 +1,21 @@
 // The state of the hub, as far as its history matters.
 ghost use Rattle.std.specs.Prelude.{◌≡◌, ◌+◌, ◌<◌, ◌≤◌, ◌^◌, ℕ, List, Ok, true, nat_lt, length, map, fold, IfOk, IfSome, OnOk, IsSome, is_some, find, slice_get, option_copied, option_map, ◌-◌};
 ghost use Rattle.std.specs.Arc.{arc_value};
-ghost use Rattle.hub_core.specs.declared.queue.QueuedItem.{QueuedItem};
 ghost use Rattle.hub_core.specs.declared.limits.Limits.{Limits};
 ghost use Rattle.hub_core.specs.Setup.{setup_of, texts_of, first_org};
 ghost use Rattle.hub_core.specs.Mail.{IsTask, is_uncategorised};
-ghost use Rattle.hub_core.specs.Standing.{Applies, start, has_room, has_epoch, live_bytes, live_epochs, with_epoch, with_mail, with_item, same_texts, is_lawful, is_moment, mail_of, any_pends, number_at, now_of, is_named, place_of_same, task_name, first_task, tasks_of};
-ghost use Rattle.hub_core.specs.Replies.{reply_organise, reply_other, reply_submit, reply_commit, reply_delivered, reply_to};
+ghost use Rattle.hub_core.specs.Waiting.{is_named, name_in, names_made, AreDue};
+ghost use Rattle.hub_core.specs.Standing.{Applies, start, has_room, has_epoch, live_bytes, live_epochs, with_epoch, with_mail, with_item, same_texts, is_lawful, is_moment, mail_of, any_pends, number_at, now_of, place_of_same, task_name, first_task, tasks_of};
+ghost use Rattle.hub_core.specs.Replies.{reply_organise, reply_other, reply_submit, reply_commit, reply_done, reply_to};
 
 mod deciding;
+mod delivering;
 
 use crate::asking::asks_of;
 use crate::limits::Limits;
 use crate::live::{Live, TaskName, first_task, is_uncategorised, made_at, uncategorised};
-use crate::queue::{QueuedItem, find, is_waiting, names_of, queued_all, take_out};
 use crate::remembered::Remembered;
+use crate::waiting::{WaitingItem, find, is_waiting, names_due, names_made, names_of, waiting_all};
 use crate::{Command, Reply, StepFault};
 use log_entry::Entry;
 use mail_names::{ItemName, LAST_MOMENT, NoMemory};
@@ -35,7 +36,7 @@ pub struct State<T: Planner> {
     newest: Arc<T::Org>,
     live: Remembered<T>,
     bytes: u64,
-    waiting: VecDeque<QueuedItem>,
+    waiting: VecDeque<WaitingItem>,
 }
 
 impl<T: Planner> Model for State<T> {
@@ -157,15 +158,29 @@ impl<T: Planner> State<T> {
         !self.waiting.is_empty()
     }
 
-    /// The names of the items that wait, in order.
+    /// The names of the items that wait, in the order in which they came to.
     pub fn waiting_names(&self, alloc: Global) -> Result<Vec<ItemName>, NoMemory>
-        ensures { IfOk result (λ names. names.items ≡ map (λ (item : QueuedItem). item.name) self.now.waiting) }
+        ensures { IfOk result (λ names. names.items ≡ map name_in self.now.waiting) }
     {
         names_of(alloc, &self.waiting)
     }
 
+    /// The names of the waiting items that the last turn made due and didn't make, in their order.
+    pub fn due(&self, alloc: Global) -> Result<Vec<ItemName>, NoMemory>
+        ensures { IfOk result (λ names. AreDue names.items self.now.waiting) }
+    {
+        names_due(alloc, &self.waiting)
+    }
+
+    /// The names of the waiting items that the last turn made, in the order in which it did.
+    pub fn made(&self, alloc: Global) -> Result<Vec<ItemName>, NoMemory>
+        ensures { IfOk result (λ names. names.items ≡ names_made self.now.waiting) }
+    {
+        names_made(alloc, &self.waiting)
+    }
+
     /// The item of this name, if it waits.
-    pub fn item(&self, name: &ItemName) -> Option<&QueuedItem>
+    pub fn item(&self, name: &ItemName) -> Option<&WaitingItem>
         ensures value { option_copied result ≡ find (is_named name.now) self.now.waiting }
         ensures waits { IsSome result → is_lawful (setup_of T.means self.now.limits) self.now (Entry.Delivered name.now) ≡ true }
     {
@@ -244,7 +259,9 @@ impl<T: Planner> State<T> {
                 clock,
             } => Ok(self.judge_decide(approval, by, *verdict, *clock)),
             Command::Moment { .. } => Ok(Reply::Done),
-            Command::Delivered { name } => Ok(self.judge_delivered(name)),
+            Command::Delivered { name } => Ok(done_or_not(is_waiting(&self.waiting, name))),
+            Command::Delayed { name } => Ok(done_or_not(self.delays(name))),
+            Command::Ended { name } => Ok(done_or_not(self.ends(name))),
         }
     }
 
@@ -358,17 +375,6 @@ impl<T: Planner> State<T> {
         }
     }
 
-    /// What is answered to the delivery of an item.
-    pub fn judge_delivered(&self, name: &ItemName) -> Reply
-        ensures { result ≡ reply_delivered self.now name.now }
-    {
-        if is_waiting(&self.waiting, name) {
-            Reply::Done
-        } else {
-            Reply::NotNow
-        }
-    }
-
     /// Goes on by an entry, if it can stand behind those before it.
     ///
     /// After a refusal the state is as it was.
@@ -393,6 +399,10 @@ impl<T: Planner> State<T> {
             } => self.decide(alloc, &approval, &by, verdict, moment),
             Entry::Moment { moment } => self.turn(alloc, moment),
             Entry::Delivered { name } => self.deliver(&name),
+            Entry::Delayed { name } => self.delay(alloc, &name),
+            Entry::Ended { name } => self.end(alloc, &name),
+            // Nothing is forgotten yet.
+            Entry::Forgot { .. } => Err(StepFault::NotLawful),
         }
     }
 
@@ -489,24 +499,20 @@ impl<T: Planner> State<T> {
             ends: _,
         } = plan;
         let asks = asks_of(alloc, holds.into_vec(), made).map_err(|_| StepFault::NoMemory)?;
-        let mut items = queued_all(alloc, texts, items).map_err(|_| StepFault::NoMemory)?;
+        let mut items = waiting_all(alloc, texts, made, items).map_err(|_| StepFault::NoMemory)?;
         self.waiting
             .append(&mut items)
             .map_err(|_| StepFault::NoMemory)?;
         self.live.categorise(place, release, asks);
         Ok(())
     }
+}
 
-    // An item is in its folder.
-    fn deliver(&mut self, name: &ItemName) -> Result<(), StepFault>
-        ensures { Applies (setup_of T.means self.old.limits) self.old (Entry.Delivered name.now) result self.new }
-    {
-        if !is_waiting(&self.waiting, name) {
-            return Err(StepFault::NotLawful);
-        }
-        take_out(&mut self.waiting, name);
-        Ok(())
-    }
+// What is answered where an item is in the state that a command asks for, or isn't.
+fn done_or_not(now: bool) -> Reply
+    ensures { result ≡ reply_done now }
+{
+    if now { Reply::Done } else { Reply::NotNow }
 }
 
 // Adds an epoch, unless it is there.
@@ -535,11 +541,11 @@ fn add_waiting<T: Planner>(epochs: &mut Vec<u32>, lives: &[Live<T>]) -> Result<(
 fn add_item<T: Planner>(
     epochs: &mut Vec<u32>,
     lives: &[Live<T>],
-    item: &QueuedItem,
+    item: &WaitingItem,
 ) -> Result<(), NoMemory>
     ensures { OnOk result (epochs.new.items ≡ with_item lives.now epochs.old.items item.now) }
 {
-    match lives.get(item.name.submission.saturating_sub(1) as usize) {
+    match lives.get(item.item.name.submission.saturating_sub(1) as usize) {
         None => Ok(()),
         Some(live) => add_epoch(epochs, live.epoch()),
     }
@@ -549,7 +555,7 @@ fn add_item<T: Planner>(
 fn add_items<T: Planner>(
     epochs: &mut Vec<u32>,
     lives: &[Live<T>],
-    waiting: &VecDeque<QueuedItem>,
+    waiting: &VecDeque<WaitingItem>,
 ) -> Result<(), NoMemory>
     ensures { OnOk result (epochs.new.items ≡ fold (with_item lives.now) epochs.old.items waiting.now.items) }
 {

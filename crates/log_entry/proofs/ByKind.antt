@@ -21,6 +21,9 @@ tagged bytes at (entries.Categorised n j plan) end is stands = (3, omega arith, 
 tagged bytes at (entries.Decided name by v m) end is stands = (4, omega arith, first (4 ∷ []) (form_decided (name, by, v, m)) bytes at end stands)
 tagged bytes at (entries.Moment m) end is stands = (5, omega arith, first (5 ∷ []) (le64 m) bytes at end stands)
 tagged bytes at (entries.Delivered name) end is stands = (6, omega arith, first (6 ∷ []) (form_name name) bytes at end stands)
+tagged bytes at (entries.Delayed name) end is stands = (7, omega arith, first (7 ∷ []) (form_name name) bytes at end stands)
+tagged bytes at (entries.Ended name) end is stands = (8, omega arith, first (8 ∷ []) (form_name name) bytes at end stands)
+tagged bytes at (entries.Forgot number) end is stands = (9, omega arith, first (9 ∷ []) (le64 number) bytes at end stands)
 
 module _ (kind : ℕ) (bytes : List ℕ) (at start : ℕ) (got : IsByte kind × Stands (form_byte kind) bytes at start) where
   is_kind : (k : ℕ) (fields : List ℕ) (end : ℕ) → IsByte k → Stands (k ∷ fields) bytes at end → k ≡ kind
@@ -37,6 +40,9 @@ module _ (kind : ℕ) (bytes : List ℕ) (at start : ℕ) (got : IsByte kind × 
   has_organised one (entries.Decided name by v m) end is stands = absurd (omega (arith, one, is_kind 4 _ end (omega arith) stands))
   has_organised one (entries.Moment m) end is stands = absurd (omega (arith, one, is_kind 5 _ end (omega arith) stands))
   has_organised one (entries.Delivered name) end is stands = absurd (omega (arith, one, is_kind 6 _ end (omega arith) stands))
+  has_organised one (entries.Delayed name) end is stands = absurd (omega (arith, one, is_kind 7 _ end (omega arith) stands))
+  has_organised one (entries.Ended name) end is stands = absurd (omega (arith, one, is_kind 8 _ end (omega arith) stands))
+  has_organised one (entries.Forgot number) end is stands = absurd (omega (arith, one, is_kind 9 _ end (omega arith) stands))
 
   -- behind the byte 2 stand the fields of an entry that was accepted
   pub has_accepted : kind ≡ 2 → HasPart IsAccepted form_accepted IsEntry entry_text bytes at start
@@ -46,6 +52,9 @@ module _ (kind : ℕ) (bytes : List ℕ) (at start : ℕ) (got : IsByte kind × 
   has_accepted two (entries.Decided name by v m) end is stands = absurd (omega (arith, two, is_kind 4 _ end (omega arith) stands))
   has_accepted two (entries.Moment m) end is stands = absurd (omega (arith, two, is_kind 5 _ end (omega arith) stands))
   has_accepted two (entries.Delivered name) end is stands = absurd (omega (arith, two, is_kind 6 _ end (omega arith) stands))
+  has_accepted two (entries.Delayed name) end is stands = absurd (omega (arith, two, is_kind 7 _ end (omega arith) stands))
+  has_accepted two (entries.Ended name) end is stands = absurd (omega (arith, two, is_kind 8 _ end (omega arith) stands))
+  has_accepted two (entries.Forgot number) end is stands = absurd (omega (arith, two, is_kind 9 _ end (omega arith) stands))
 
   pub has_categorised : kind ≡ 3 → HasPart IsCategorised form_categorised IsEntry entry_text bytes at start
   has_categorised three (entries.Categorised n j plan) end is stands = ((n, j, plan), is, fields_there 3 _ end (omega arith) stands)
@@ -54,6 +63,9 @@ module _ (kind : ℕ) (bytes : List ℕ) (at start : ℕ) (got : IsByte kind × 
   has_categorised three (entries.Decided name by v m) end is stands = absurd (omega (arith, three, is_kind 4 _ end (omega arith) stands))
   has_categorised three (entries.Moment m) end is stands = absurd (omega (arith, three, is_kind 5 _ end (omega arith) stands))
   has_categorised three (entries.Delivered name) end is stands = absurd (omega (arith, three, is_kind 6 _ end (omega arith) stands))
+  has_categorised three (entries.Delayed name) end is stands = absurd (omega (arith, three, is_kind 7 _ end (omega arith) stands))
+  has_categorised three (entries.Ended name) end is stands = absurd (omega (arith, three, is_kind 8 _ end (omega arith) stands))
+  has_categorised three (entries.Forgot number) end is stands = absurd (omega (arith, three, is_kind 9 _ end (omega arith) stands))
 
   pub has_decided : kind ≡ 4 → HasPart IsDecided form_decided IsEntry entry_text bytes at start
   has_decided four (entries.Decided name by v m) end is stands = ((name, by, v, m), is, fields_there 4 _ end (omega arith) stands)
@@ -62,3 +74,6 @@ module _ (kind : ℕ) (bytes : List ℕ) (at start : ℕ) (got : IsByte kind × 
   has_decided four (entries.Categorised n j plan) end is stands = absurd (omega (arith, four, is_kind 3 _ end (omega arith) stands))
   has_decided four (entries.Moment m) end is stands = absurd (omega (arith, four, is_kind 5 _ end (omega arith) stands))
   has_decided four (entries.Delivered name) end is stands = absurd (omega (arith, four, is_kind 6 _ end (omega arith) stands))
+  has_decided four (entries.Delayed name) end is stands = absurd (omega (arith, four, is_kind 7 _ end (omega arith) stands))
+  has_decided four (entries.Ended name) end is stands = absurd (omega (arith, four, is_kind 8 _ end (omega arith) stands))
+  has_decided four (entries.Forgot number) end is stands = absurd (omega (arith, four, is_kind 9 _ end (omega arith) stands))

@@ -30,3 +30,6 @@ IsEntry (entries.Categorised number release plan) = IsCategorised (number, relea
 IsEntry (entries.Decided approval by verdict moment) = IsDecided (approval, by, verdict, moment)
 IsEntry (entries.Moment moment) = IsU64 moment
 IsEntry (entries.Delivered name) = IsName name
+IsEntry (entries.Delayed name) = IsName name
+IsEntry (entries.Ended name) = IsName name
+IsEntry (entries.Forgot number) = IsU64 number

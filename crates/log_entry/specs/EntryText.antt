@@ -157,3 +157,6 @@ entry_text (entries.Categorised number release plan) = 3 ∷ form_categorised (n
 entry_text (entries.Decided approval by verdict moment) = 4 ∷ form_decided (approval, by, verdict, moment)
 entry_text (entries.Moment moment) = 5 ∷ le64 moment
 entry_text (entries.Delivered name) = 6 ∷ form_name name
+entry_text (entries.Delayed name) = 7 ∷ form_name name
+entry_text (entries.Ended name) = 8 ∷ form_name name
+entry_text (entries.Forgot number) = 9 ∷ le64 number

@@ -38,4 +38,16 @@ pub enum Entry {
     Delivered {
         name: ItemName,
     },
+    /// The sender of an item was told that it is late.
+    Delayed {
+        name: ItemName,
+    },
+    /// An item that couldn't be put into its folder was given up.
+    Ended {
+        name: ItemName,
+    },
+    /// The submission of this number, of which nothing waited any more, was forgotten.
+    Forgot {
+        number: u64,
+    },
 }

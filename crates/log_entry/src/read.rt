@@ -207,6 +207,18 @@ fn entry_at(alloc: Global, bytes: &[u8], at: usize) -> Result<(Entry, usize), Mi
             let (name, end) = name_at(bytes, start)?;
             Ok((Entry::Delivered { name }, end))
         }
+        7 => {
+            let (name, end) = name_at(bytes, start)?;
+            Ok((Entry::Delayed { name }, end))
+        }
+        8 => {
+            let (name, end) = name_at(bytes, start)?;
+            Ok((Entry::Ended { name }, end))
+        }
+        9 => {
+            let (number, end) = u64_at(bytes, start)?;
+            Ok((Entry::Forgot { number }, end))
+        }
         _ => Err(Miss::NoForm),
     }
 }

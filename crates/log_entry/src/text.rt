@@ -411,6 +411,18 @@ fn put_entry(into: &mut Bytes, entry: &Entry) -> Result<(), NoMemory>
             into.add(&[6])?;
             put_item_name(into, name)
         }
+        Entry::Delayed { name } => {
+            into.add(&[7])?;
+            put_item_name(into, name)
+        }
+        Entry::Ended { name } => {
+            into.add(&[8])?;
+            put_item_name(into, name)
+        }
+        Entry::Forgot { number } => {
+            into.add(&[9])?;
+            put_u64(into, *number)
+        }
     }
 }
 

@@ -133,6 +133,9 @@ limits-after setup s (entries.Categorised number release plan) = refl
 limits-after setup s (entries.Decided name by verdict moment) = refl
 limits-after setup s (entries.Moment moment) = refl
 limits-after setup s (entries.Delivered name) = refl
+limits-after setup s (entries.Delayed name) = refl
+limits-after setup s (entries.Ended name) = refl
+limits-after setup s (entries.Forgot number) = refl
 
 limits-kept : (setup : Setup) (s : Standing) (h : List Entry) → (fold (state_after setup) s h).limits ≡ s.limits
 limits-kept setup s [] = refl

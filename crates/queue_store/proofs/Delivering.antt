@@ -15,7 +15,9 @@ use Rattle.queue_disk.specs.View.{LogView}
 use Rattle.queue_disk.specs.Log.{Shut, Staged, log_of, payloads, staged, IsOpen}
 use Rattle.hub_core.specs.declared.queue.QueuedItem.{QueuedItem}
 use Rattle.hub_core.specs.Setup.{Setup}
-use Rattle.hub_core.specs.Standing.{Standing, start, standing, state_after, told_by, is_named, is_lawful}
+use Rattle.hub_core.specs.declared.waiting.WaitingItem.{WaitingItem}
+use Rattle.hub_core.specs.Waiting.{is_named}
+use Rattle.hub_core.specs.Standing.{Standing, start, standing, state_after, told_by, is_lawful}
 use Rattle.hub_core.specs.Items.{past, past_after, no_past, items_of, notices_from, items, Among}
 use Rattle.hub_core.proofs.Offered.{found_named, older, prescribed}
 use Rattle.queue_store.specs.declared.fault.HubFault.{HubFault}
@@ -48,12 +50,15 @@ items-deliveries setup h (entries.Accepted moment submission ∷ t) all = absurd
 items-deliveries setup h (entries.Categorised number release plan ∷ t) all = absurd all.0
 items-deliveries setup h (entries.Decided name by verdict moment ∷ t) all = absurd all.0
 items-deliveries setup h (entries.Moment moment ∷ t) all = absurd all.0
+items-deliveries setup h (entries.Delayed name ∷ t) all = absurd all.0
+items-deliveries setup h (entries.Ended name ∷ t) all = absurd all.0
+items-deliveries setup h (entries.Forgot number ∷ t) all = absurd all.0
 
 among_all : (setup : Setup) (h t : List Entry) (x : QueuedItem) → Among x (items setup h) → Among x (items setup (h ++ t))
 among_all setup h [] x among = subst (λ (g : List Entry). Among x (items setup g)) (sym (append-nil h)) among
 among_all setup h (e ∷ t) x among = subst (λ (g : List Entry). Among x (items setup g)) (append_assoc h (e ∷ []) t) (among_all setup (h ++ e ∷ []) t x (older setup h e x among))
 
-put_deliveries : (name : ItemName) (item : Option QueuedItem) (put : Bool) → AllByRecursion IsDelivery (entries_put name item put)
+put_deliveries : (name : ItemName) (item : Option WaitingItem) (put : Bool) → AllByRecursion IsDelivery (entries_put name item put)
 put_deliveries name None put = tt
 put_deliveries name (Some item) true = (tt, tt)
 put_deliveries name (Some item) false = tt
@@ -100,12 +105,12 @@ pub each-put : (s s' : State) (item : Stored) → Shelves (Puts item) s s' → E
 each-put s s' item puts c left = (let (d, was, moved) = puts.crash c left in has-put item d.shelf c.shelf moved.shelf)
 
 -- an item that is found waits, and is prescribed by what is settled
-pub found_prescribed : (setup : Setup) (s : State) (hub : Kept) (h t : List Entry) (name : ItemName) (item : QueuedItem) → AllByRecursion IsDelivery t → IsReady setup s hub h t →
-    find (is_named name) hub.state.waiting ≡ Some item → Among item (items setup h) × (item.name ≡ name)
-found_prescribed setup s hub h t name item all ready found =
-    let f = found_named name (standing setup (h ++ t)).waiting item (ap (λ (st : Standing). find (is_named name) st.waiting) (sym ready.state) ∙ found) in
-    let there = prescribed setup (h ++ t) (ready.then s.image ready.image).history item f.0 in
-    (subst (λ (xs : List QueuedItem). Among item xs) (items-deliveries setup h t all) there, f.1)
+pub found_prescribed : (setup : Setup) (s : State) (hub : Kept) (h t : List Entry) (name : ItemName) (w : WaitingItem) → AllByRecursion IsDelivery t → IsReady setup s hub h t →
+    find (is_named name) hub.state.waiting ≡ Some w → Among w.item (items setup h) × (w.item.name ≡ name)
+found_prescribed setup s hub h t name w all ready found =
+    let f = found_named name (standing setup (h ++ t)).waiting w (ap (λ (st : Standing). find (is_named name) st.waiting) (sym ready.state) ∙ found) in
+    let there = prescribed setup (h ++ t) (ready.then s.image ready.image).history w.item f.0 in
+    (subst (λ (xs : List QueuedItem). Among w.item xs) (items-deliveries setup h t all) there, f.1)
 
 -- the delivery of an item that each image has can be told
 pub delivered_follows : (setup : Setup) (s : State) (hub : Kept) (h t : List Entry) (name : ItemName) (item : QueuedItem) → IsReady setup s hub h t → Among item (items setup h) → item.name ≡ name →

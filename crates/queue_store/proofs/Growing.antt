@@ -33,6 +33,9 @@ delivered_push (entries.Accepted m s ∷ h) e name d = delivered_push h e name d
 delivered_push (entries.Categorised n r p ∷ h) e name d = delivered_push h e name d
 delivered_push (entries.Decided approval by verdict m ∷ h) e name d = delivered_push h e name d
 delivered_push (entries.Moment m ∷ h) e name d = delivered_push h e name d
+delivered_push (entries.Delayed n ∷ h) e name d = delivered_push h e name d
+delivered_push (entries.Ended n ∷ h) e name d = delivered_push h e name d
+delivered_push (entries.Forgot n ∷ h) e name d = delivered_push h e name d
 
 delivered_one : (setup : Setup) (h : List Entry) (e : Entry) (name : ItemName) (shelf : List Stored) → IsTrueOf setup h e shelf → IsDelivered name (e ∷ []) → IsShelved setup h name shelf
 delivered_one setup h (entries.Delivered other) name shelf told (inl same) = subst (λ (n : ItemName). IsShelved setup h n shelf) (sym same) told
@@ -42,6 +45,9 @@ delivered_one setup h (entries.Accepted m s) name shelf told d = absurd d
 delivered_one setup h (entries.Categorised n r p) name shelf told d = absurd d
 delivered_one setup h (entries.Decided approval by verdict m) name shelf told d = absurd d
 delivered_one setup h (entries.Moment m) name shelf told d = absurd d
+delivered_one setup h (entries.Delayed n) name shelf told d = absurd d
+delivered_one setup h (entries.Ended n) name shelf told d = absurd d
+delivered_one setup h (entries.Forgot n) name shelf told d = absurd d
 
 delivered_all : (setup : Setup) (h : List Entry) (e : Entry) (name : ItemName) (shelf : List Stored) → ((name : ItemName) → IsDelivered name h → IsShelved setup h name shelf) → IsTrueOf setup h e shelf →
     IsDelivered name (h ++ e ∷ []) → IsShelved setup (h ++ e ∷ []) name shelf

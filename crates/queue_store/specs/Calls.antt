@@ -7,14 +7,15 @@ use Rattle.moderation.specs.declared.approval.Verdict.{Verdict}
 use Rattle.mail_submission.specs.Submission.{Submitted}
 use Rattle.log_entry.specs.declared.entry.Entry.{Entry}
 use Rattle.log_entry.specs.declared.entry.Entry.TheVariants as entries
-use Rattle.hub_core.specs.declared.queue.QueuedItem.{QueuedItem}
+use Rattle.hub_core.specs.declared.waiting.WaitingItem.{WaitingItem}
 use Rattle.mail_submission.specs.declared.intake.Accepted.{Accepted}
 use Rattle.hub_core.specs.declared.command.Reply.TheVariants as replies
 use Rattle.mail_plan.specs.Planning.{Input}
 use Rattle.hub_core.specs.declared.live.TaskName.{TaskName}
 use Rattle.hub_core.specs.Setup.{Texts, Setup}
 use Rattle.hub_core.specs.Mail.{LiveMail, waits, input_of, is_taken}
-use Rattle.hub_core.specs.Standing.{Standing, state_after, now_of, has_room, is_named, place_of_same, mail_of, any_pends, decision_of, tasks_of}
+use Rattle.hub_core.specs.Standing.{Standing, state_after, now_of, has_room, place_of_same, mail_of, any_pends, decision_of, tasks_of}
+use Rattle.hub_core.specs.Waiting.{is_named, name_in}
 use Rattle.hub_core.specs.Replies.{reply_submit}
 
 abbrev pub after_entries : Setup → Standing → List Entry → Standing
@@ -61,7 +62,7 @@ abbrev pub entries_decide : Standing → ApprovalName → List ℕ → Verdict �
 entries_decide s name by verdict clock =
     if is_taken (decision_of s name by verdict (now_of s clock)) then entries.Decided name by verdict (now_of s clock) ∷ [] else []
 
-abbrev pub entries_put : ItemName → Option QueuedItem → Bool → List Entry
+abbrev pub entries_put : ItemName → Option WaitingItem → Bool → List Entry
 entries_put name None put = []
 entries_put name (Some item) true = entries.Delivered name ∷ []
 entries_put name (Some item) false = []
@@ -78,7 +79,7 @@ entries_tries setup s (name ∷ names) (put ∷ puts) =
     entries_try s name put ++ entries_tries setup (after_entries setup s (entries_try s name put)) names puts
 
 abbrev pub names_waiting : Standing → List ItemName
-names_waiting s = map (λ (item : QueuedItem). item.name) s.waiting
+names_waiting s = map name_in s.waiting
 
 -- a turn's moment
 abbrev pub moment_entry : Standing → ℕ → Entry
@@ -109,6 +110,9 @@ IsDelivery (entries.Accepted moment submission) = ⊥
 IsDelivery (entries.Categorised number release plan) = ⊥
 IsDelivery (entries.Decided name by verdict moment) = ⊥
 IsDelivery (entries.Moment moment) = ⊥
+IsDelivery (entries.Delayed name) = ⊥
+IsDelivery (entries.Ended name) = ⊥
+IsDelivery (entries.Forgot number) = ⊥
 
 -- how many puts failed
 abbrev pub misses : List Bool → ℕ

@@ -193,6 +193,9 @@ IsTrueOf setup h (entries.Accepted moment submission) shelf = Unit {0}
 IsTrueOf setup h (entries.Categorised number release plan) shelf = Unit {0}
 IsTrueOf setup h (entries.Decided name by verdict moment) shelf = Unit {0}
 IsTrueOf setup h (entries.Moment moment) shelf = Unit {0}
+IsTrueOf setup h (entries.Delayed name) shelf = Unit {0}
+IsTrueOf setup h (entries.Ended name) shelf = Unit {0}
+IsTrueOf setup h (entries.Forgot number) shelf = Unit {0}
 
 -- each image has an item of this folder and name
 abbrev pub EachHas : List ℕ → ItemName → State → Type 0

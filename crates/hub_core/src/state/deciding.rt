@@ -9,6 +9,7 @@ use super::State;
 use crate::asking::Asking;
 use crate::ending::{all_told, refused_told};
 use crate::live::asking_for;
+use crate::waiting::{Due, meet_all, noticed_all};
 use crate::{Reply, StepFault};
 use log_entry::Entry;
 use mail_names::{ApprovalName, Key};
@@ -108,7 +109,10 @@ impl<T: Planner> State<T> {
         ensures { Applies (setup_of T.means self.old.limits) self.old (Entry.Decided name.now by.now Verdict.Reject moment) result self.new }
     {
         let place = (name.submission - 1) as usize;
-        let mut told = refused_told(alloc, self.live.as_slice(), place, name, by, moment).map_err(
+        let told = refused_told(alloc, self.live.as_slice(), place, name, by, moment).map_err(
+            |_| StepFault::NoMemory,
+        )?;
+        let mut told = noticed_all(alloc, told, moment, Due::First).map_err(
             |_| StepFault::NoMemory,
         )?;
         self.waiting
@@ -119,19 +123,21 @@ impl<T: Planner> State<T> {
         Ok(())
     }
 
-    // A turn began: approvals at or past their deadline end.
+    // A turn began: approvals at or past their deadline end, and items become due.
     pub(super) fn turn(&mut self, alloc: Global, moment: u64) -> Result<(), StepFault>
         ensures { Applies (setup_of T.means self.old.limits) self.old (Entry.Moment moment) result self.new }
     {
         if !self.is_moment(moment) {
             return Err(StepFault::NotLawful);
         }
-        let mut told = all_told(alloc, self.live.as_slice(), moment).map_err(
+        let told = all_told(alloc, self.live.as_slice(), moment).map_err(|_| StepFault::NoMemory)?;
+        let mut told = noticed_all(alloc, told, moment, Due::Fresh).map_err(
             |_| StepFault::NoMemory,
         )?;
         self.waiting
             .append(&mut told)
             .map_err(|_| StepFault::NoMemory)?;
+        meet_all(&mut self.waiting, moment);
         self.live.expire(moment);
         self.moment = moment;
         Ok(())

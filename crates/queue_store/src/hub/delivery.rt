@@ -69,7 +69,7 @@ impl<T: Planner> Hub<T> {
     {
         match self.state.item(&name) {
             None => Ok(true),
-            Some(item) => match shelve(alloc, plant, item) {
+            Some(item) => match shelve(alloc, plant, &item.item) {
                 Err(fault) => Err(fault),
                 Ok(false) => Ok(false),
                 Ok(true) => match self.append(alloc, plant, Entry::Delivered { name }) {

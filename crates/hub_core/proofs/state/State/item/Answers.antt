@@ -1,7 +1,8 @@
 use Rattle.std.proofs.Common.{ap, ◌∙◌, sym}
 use Rattle.std.specs.Prelude.{is_some}
 use Rattle.std.specs.List.{list_any}
-use Rattle.hub_core.specs.Standing.{Standing, is_named}
+use Rattle.hub_core.specs.Standing.{Standing}
+use Rattle.hub_core.specs.Waiting.{is_named}
 use Rattle.hub_core.proofs.Found.{is_some-find, is_some-copied}
 use Rattle.hub_core.proofs.state.State.item.Goals as goal
 

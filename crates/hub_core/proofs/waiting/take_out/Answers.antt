@@ -1,6 +1,6 @@
 use Rattle.std.proofs.Common.{◌∙◌, sym}
 use Rattle.hub_core.proofs.Removing.{without-at, place-within, without-none}
-use Rattle.hub_core.proofs.queue.take_out.Goals as goal
+use Rattle.hub_core.proofs.waiting.take_out.Goals as goal
 
 pub returns-in-Some : goal.returns-in-Some
 returns-in-Some c =

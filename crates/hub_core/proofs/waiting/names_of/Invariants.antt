@@ -1,0 +1,7 @@
+use Rattle.std.proofs.Common.{◌≡◌, map, Bor}
+use Rattle.hub_core.specs.declared.waiting.WaitingItem.{WaitingItem}
+use Rattle.hub_core.specs.Waiting.{name_in}
+use Rattle.hub_core.proofs.waiting.names_of.Given as goal
+
+abbrev pub invariant-loop-item : goal.invariant-loop-item
+invariant-loop-item l = l.names.items ≡ map name_in (map (λ (item : Bor WaitingItem). item.now) l.yielded)
