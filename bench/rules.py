@@ -157,4 +157,5 @@ def main():
         journaled(folder, directory, text, none)
 
 
-main()
+if __name__ == "__main__":
+    main()

@@ -9,22 +9,27 @@
 //!   `-` is the null sender, and in the text `\` the end of a line.
 //! - `categorise SUBMISSION RELEASE`, and for each hold the place of its rule, and whom it tells: a release with these holds, each
 //!   with the moderators mia@a and max@a.
+//! - `versions SUBMISSION RELEASE KEY,KEY`: a release with a version for each key.
 //! - `decide APPROVAL KEY VERDICT MOMENT` and `moment MOMENT`.
+//! - `delivered NAME`, `delayed NAME`, `ended NAME` and `forgot SUBMISSION`.
 //! - `commit SUBMISSION EPOCH DIRECTORY RECIPIENT,RECIPIENT`, and for each opening its moment and its rule: the outcome of the release
 //!   behind these openings of ann@a's message at 7, by the first directory, or by its header without the end of the line.
-//! - `stand`, `item NAME` and `task RESIDUE WORKERS`: how the hub stands, whether an item waits, and the first task of a worker.
+//! - `stand`, `due`, `item NAME` and `task RESIDUE WORKERS`: how the hub stands, which items the last turn made due and which it
+//!   made, whether an item waits, and the first task of a worker.
 //!
 //! A command prints its reply, and whether its entry applies. To add a row, write its answer from the docs of `Reply`, and not from
 //! a run.
 #![tactic(auto)]
 
 mod changing;
+mod delivering;
 mod outcomes;
 mod silent;
 mod standing;
 mod words;
 
 use crate::changing::{categorise, decide, moment, organise, start, submit};
+use crate::delivering::{delayed, delivered, due, ended, forgot, versions};
 use crate::outcomes::commit;
 use crate::silent::Silent;
 use crate::standing::{item, stand, task};
@@ -39,10 +44,28 @@ fn look(alloc: Global, state: &State<Silent>, word: &str, rest: &str) -> Result<
     match word {
         "commit" => commit(alloc, state, rest),
         "stand" => stand(alloc, state),
+        "due" => due(alloc, state),
         "item" => item(alloc, state, rest),
         "task" => task(alloc, state, rest),
         "#" => Bytes::of(alloc, rest.as_bytes()),
         _ => Bytes::of(alloc, b"no row"),
+    }
+}
+
+// A row on items that turns try, or one that changes nothing.
+fn deliver(
+    alloc: Global,
+    state: &mut State<Silent>,
+    word: &str,
+    rest: &str,
+) -> Result<Bytes, NoMemory> {
+    match word {
+        "versions" => versions(alloc, state, rest),
+        "delivered" => delivered(alloc, state, rest),
+        "delayed" => delayed(alloc, state, rest),
+        "ended" => ended(alloc, state, rest),
+        "forgot" => forgot(alloc, state, rest),
+        _ => look(alloc, state, word, rest),
     }
 }
 
@@ -55,7 +78,7 @@ fn answer(alloc: Global, state: &mut State<Silent>, line: &str) -> Result<Bytes,
         "categorise" => categorise(alloc, state, rest),
         "decide" => decide(alloc, state, rest),
         "moment" => moment(alloc, state, rest),
-        _ => look(alloc, state, word, rest),
+        _ => deliver(alloc, state, word, rest),
     }
 }
 

@@ -31,7 +31,8 @@
 //! | `holds SENDER RECIPIENT TERM` | whether the term holds |
 //! | `applies SENDER RECIPIENT MOMENT KEYS` | whether a rule with these keys applies |
 //! | `book` | what the rule book has, a line a part |
-//! | `run SENDER OPENED RECIPIENTS` | the fates under the rule book, the copies, and a line for each text |
+//! | `run SENDER OPENED RECIPIENTS` | the fates under the rule book, the copies, and a line for each text, or its length where it has more than 4,096 octets |
+//! | `run-alone SENDER OPENED RECIPIENTS` | the same, where each recipient is judged alone |
 //! | `forks SENDER OPENED RECIPIENTS` | a line for each fork: its edits, each as RULE.ACTION, the places of its leaves, and the text after the edits |
 //! | `texts WORDS` | the place of each word, and how many texts there are |
 //! | `takes SENDER TARGET` | a letter for each journal rule: whether it takes the mail |
@@ -43,6 +44,7 @@
 //! the next one for `\+`.
 #![tactic(auto)]
 
+mod alone_rows;
 mod asked;
 mod blocks;
 mod book_rows;

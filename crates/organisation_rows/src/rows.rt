@@ -6,8 +6,8 @@ use crate::reading_rows::{FORWARDS_HEADER, HEADER};
 use crate::rule_rows::RULE;
 use crate::wrong::Wrong;
 use crate::{
-    blocks, book_rows, directory_rows, fork_rows, group_rows, journal_rows, reading_rows,
-    rule_rows, run_rows,
+    alone_rows, blocks, book_rows, directory_rows, fork_rows, group_rows, journal_rows,
+    reading_rows, rule_rows, run_rows,
 };
 use org_directory::Directory;
 use std::alloc::Global;
@@ -85,6 +85,7 @@ fn ask_rules(
         "applies" => rule_rows::rule(alloc, desk, row, out)?,
         "book" => book_rows::shown(out, &desk.book)?,
         "run" => run_rows::fates(alloc, desk, row, out)?,
+        "run-alone" => alone_rows::fates(alloc, desk, row, out)?,
         "forks" => fork_rows::forked(alloc, desk, row, out)?,
         "texts" => run_rows::texts(alloc, row, out)?,
         "takes" => journal_rows::taken(alloc, desk, row, out)?,

@@ -10,6 +10,9 @@ use mail_names::{Bytes, Items, Key};
 use rule_engine::{Fate, Run, SideCopy, Texts, run_rules};
 use std::alloc::Global;
 
+// A longer text is told by its length.
+const SHOWN: usize = 4096;
+
 /// Leaves of these keys.
 pub fn leaves(alloc: Global, keys: &[Key]) -> Result<Items<Leaf>, Wrong> {
     let mut leaves = Items::new(alloc);
@@ -43,26 +46,30 @@ fn run_of(
     )?)
 }
 
-fn add_redirect(out: &mut String, target: &Key, text: u32, rule: u32) -> Result<(), Wrong> {
+/// Adds the target of a redirect or a copy, and the place of the text that it gets.
+pub fn add_redirect(out: &mut String, target: &Key, text: u32, rule: u32) -> Result<(), Wrong> {
     out.push(' ')?;
     add_escaped(out, target.bytes())?;
     write!(out, " gets {text} by {rule};")?;
     Ok(())
 }
 
-fn add_reject(out: &mut String, rule: u32, code: u32, words: &Bytes) -> Result<(), Wrong> {
+/// Adds a rejection.
+pub fn add_reject(out: &mut String, rule: u32, code: u32, words: &Bytes) -> Result<(), Wrong> {
     out.push(' ')?;
     add_escaped(out, words.as_slice())?;
     write!(out, " 5.7.{code} by {rule};")?;
     Ok(())
 }
 
-fn add_kept(out: &mut String, text: u32) -> Result<(), Wrong> {
+/// Adds the place of the text that a recipient gets.
+pub fn add_kept(out: &mut String, text: u32) -> Result<(), Wrong> {
     write!(out, " keep {text};")?;
     Ok(())
 }
 
-fn add_held(out: &mut String, rule: u32) -> Result<(), Wrong> {
+/// Adds the rule that holds the message.
+pub fn add_held(out: &mut String, rule: u32) -> Result<(), Wrong> {
     write!(out, " held by {rule};")?;
     Ok(())
 }
@@ -81,6 +88,24 @@ fn add_copy(out: &mut String, copied: &SideCopy) -> Result<(), Wrong> {
     add_redirect(out, &copied.target, copied.text, copied.rule)
 }
 
+// Adds a text on a line of its own.
+fn add_shown(out: &mut String, text: &[u8]) -> Result<(), Wrong> {
+    out.push_str("\n  ")?;
+    if text.len() > SHOWN {
+        write!(out, "{} octets", text.len())?;
+        return Ok(());
+    }
+    add_escaped(out, text)
+}
+
+/// Adds the texts of a run.
+pub fn add_shown_texts(out: &mut String, texts: &[Bytes]) -> Result<(), Wrong> {
+    for text in texts {
+        add_shown(out, text.as_slice())?;
+    }
+    Ok(())
+}
+
 fn add_run(out: &mut String, run: &Run) -> Result<(), Wrong> {
     for fate in run.fates.as_slice() {
         add_fate(out, fate)?;
@@ -88,11 +113,7 @@ fn add_run(out: &mut String, run: &Run) -> Result<(), Wrong> {
     for copied in run.copies.as_slice() {
         add_copy(out, copied)?;
     }
-    for text in run.texts.as_slice() {
-        out.push_str("\n  ")?;
-        add_escaped(out, text.as_slice())?;
-    }
-    Ok(())
+    add_shown_texts(out, run.texts.as_slice())
 }
 
 /// The row `run SENDER OPENED RECIPIENTS`.

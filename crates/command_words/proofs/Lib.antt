@@ -1,0 +1,12 @@
+pub mod Cuts
+pub mod Steps
+pub mod Classes
+pub mod Shapes
+pub mod Numbers
+pub mod Bare
+pub mod Options
+pub mod Turn
+pub mod Make
+pub mod Taken
+pub mod Readings
+pub mod Meanings

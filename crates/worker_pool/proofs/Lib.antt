@@ -1,0 +1,4 @@
+pub mod Causing
+pub mod Parts
+pub mod Saying
+pub mod Turning
